@@ -1,0 +1,1 @@
+// Hex digits, bytes as pairs of them, and numbers as bytes.

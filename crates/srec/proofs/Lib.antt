@@ -1,0 +1,13 @@
+pub mod RecordLaws
+pub mod LineLaws
+pub mod CanonicalLaws
+pub mod RunLaws
+pub mod BoundLaws
+pub mod ContentLaws
+pub mod LoadLaws
+pub mod WidthLaws
+pub mod Demand3
+pub mod Facts
+pub mod SameLaws
+pub mod ResultLaws
+pub mod TableLaws

@@ -1,0 +1,12 @@
+pub mod Lines
+pub mod Kinds
+pub mod Reading
+pub mod Writing
+pub mod Scan
+pub mod Canonical
+pub mod Load
+pub mod Write
+pub mod Terms
+pub mod Demand3
+pub mod Facts
+pub mod Table

@@ -1,0 +1,6 @@
+pub mod CellLaws
+pub mod OrderLaws
+pub mod PlanLaws
+pub mod FillLaws
+pub mod RoomLaws
+pub mod ViewLaws

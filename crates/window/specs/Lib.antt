@@ -1,0 +1,4 @@
+pub mod Windows
+pub mod Images
+pub mod Cells
+pub mod Plans

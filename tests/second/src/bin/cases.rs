@@ -1,0 +1,105 @@
+//! Prints small cases with their results, one line of JSON for each.
+
+use second::cases::{load_case, write_case, SMALL};
+use second::reading::{load, write};
+use std::io::{self, BufWriter, Write};
+use std::process::ExitCode;
+
+const USAGE: &str = "usage: cases load|write SEED COUNT";
+
+fn main() -> ExitCode {
+    let arguments: Vec<String> = std::env::args().skip(1).collect();
+    let Some((line, seed, count)) = parse(&arguments) else {
+        eprintln!("{USAGE}");
+        return ExitCode::from(2);
+    };
+    match print(line, seed, count) {
+        Ok(()) => ExitCode::SUCCESS,
+        Err(error) => {
+            eprintln!("cases: {error}");
+            ExitCode::FAILURE
+        }
+    }
+}
+
+/// Gives the line of the case with a seed and an index.
+type Line = fn(u64, u64) -> String;
+
+fn parse(arguments: &[String]) -> Option<(Line, u64, u64)> {
+    let [side, seed, count] = arguments else {
+        return None;
+    };
+    let line: Line = match side.as_str() {
+        "load" => load_line,
+        "write" => write_line,
+        _ => return None,
+    };
+    Some((line, seed.parse().ok()?, count.parse().ok()?))
+}
+
+fn print(line: Line, seed: u64, count: u64) -> io::Result<()> {
+    let mut out = BufWriter::new(io::stdout().lock());
+    for index in 0..count {
+        writeln!(out, "{}", line(seed, index))?;
+    }
+    out.flush()
+}
+
+fn load_line(seed: u64, index: u64) -> String {
+    let case = load_case(seed, index, SMALL);
+    let mut memory = case.memory.clone();
+    let mut marks = case.marks.clone();
+    let loaded = load(&case.text, case.base, &mut memory, &mut marks);
+    object(&[
+        ("text", array(&case.text)),
+        ("base", case.base.to_string()),
+        ("memory", array(&case.memory)),
+        ("marks", array(&case.marks)),
+        ("number", loaded.refusal.number.to_string()),
+        ("record", loaded.refusal.record.to_string()),
+        ("place", loaded.refusal.place.to_string()),
+        ("header", array(&loaded.header[..loaded.header_len])),
+        ("entry", loaded.entry.to_string()),
+        ("records", loaded.records.to_string()),
+        ("cells", loaded.cells.to_string()),
+        ("memory_after", array(&memory)),
+        ("marks_after", array(&marks)),
+    ])
+}
+
+fn write_line(seed: u64, index: u64) -> String {
+    let case = write_case(seed, index, SMALL);
+    let mut out = vec![0; case.room];
+    let written = write(
+        case.base,
+        &case.memory,
+        &case.marks,
+        &case.header,
+        case.entry,
+        &mut out,
+    );
+    object(&[
+        ("base", case.base.to_string()),
+        ("memory", array(&case.memory)),
+        ("marks", array(&case.marks)),
+        ("header", array(&case.header)),
+        ("entry", case.entry.to_string()),
+        ("room", case.room.to_string()),
+        ("number", written.number.to_string()),
+        ("place", written.place.to_string()),
+        ("text_out", array(&out[..written.length])),
+    ])
+}
+
+fn object(fields: &[(&str, String)]) -> String {
+    let fields: Vec<String> = fields
+        .iter()
+        .map(|(name, value)| format!("\"{name}\":{value}"))
+        .collect();
+    format!("{{{}}}", fields.join(","))
+}
+
+fn array(bytes: &[u8]) -> String {
+    let numbers: Vec<String> = bytes.iter().map(u8::to_string).collect();
+    format!("[{}]", numbers.join(","))
+}

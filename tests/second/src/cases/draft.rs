@@ -1,0 +1,118 @@
+//! Records in the making and how they become a text.
+
+use crate::random::Random;
+
+/// A record by its fields, so that each can be made wrong alone.
+#[derive(Clone)]
+pub struct Draft {
+    pub letter: u8,
+    pub kind: u8,
+    /// Address and data bytes.
+    pub body: Vec<u8>,
+    /// A count in place of the right one.
+    pub count: Option<u8>,
+    /// What the checksum is above the right one, modulo 256.
+    pub checksum_error: u8,
+}
+
+impl Draft {
+    pub fn new(kind: u8, address: u64, data: &[u8]) -> Draft {
+        let mut body = address.to_be_bytes()[8 - width_of(kind)..].to_vec();
+        body.extend(data);
+        Draft {
+            letter: b'S',
+            kind,
+            body,
+            count: None,
+            checksum_error: 0,
+        }
+    }
+
+    pub fn text(&self) -> Vec<u8> {
+        let count = self.count.unwrap_or(self.body.len() as u8 + 1);
+        let sum = self.body.iter().fold(count, |sum, &b| sum.wrapping_add(b));
+        let checksum = (!sum).wrapping_add(self.checksum_error);
+        let digits: String = [&[count], &self.body[..], &[checksum]]
+            .concat()
+            .iter()
+            .map(|byte| format!("{byte:02X}"))
+            .collect();
+        [&[self.letter, self.kind], digits.as_bytes()].concat()
+    }
+}
+
+/// The address bytes of a type.
+fn width_of(kind: u8) -> usize {
+    match kind {
+        b'3' | b'7' => 4,
+        b'2' | b'8' => 3,
+        _ => 2,
+    }
+}
+
+pub fn data_kind(width: usize) -> u8 {
+    b'0' + width as u8 - 1
+}
+
+pub fn end_kind(width: usize) -> u8 {
+    b'0' + 11 - width as u8
+}
+
+/// The number of addresses of a width.
+pub fn reach(width: usize) -> u64 {
+    1 << (8 * width)
+}
+
+/// The most data bytes of a record of this width.
+pub fn most_data(width: usize) -> usize {
+    254 - width
+}
+
+/// A terminator with an entry at one of its width's ends or between them.
+pub fn terminator(random: &mut Random, width: usize) -> Vec<u8> {
+    let last = reach(width) - 1;
+    let between = random.between(0, last);
+    let entry = random.pick(&[0, last, between]);
+    Draft::new(end_kind(width), entry, &[]).text()
+}
+
+pub fn count_record(number: usize) -> Vec<u8> {
+    Draft::new(b'5', number as u64, &[]).text()
+}
+
+/// Makes one text of the records, in one of the styles of line ends and digits.
+pub fn join(random: &mut Random, records: &[Vec<u8>]) -> Vec<u8> {
+    let ends: [&[u8]; 6] = [b"\n", b"\r", b"\r\n", b"\n\r", b"\n\n\n", b"\r\r\n\r"];
+    let mixed_ends = random.chance(1, 4);
+    let mut end = random.pick(&ends);
+    let lower_of_four = random.pick(&[0, 4, 2]);
+    let mut text = Vec::new();
+    if random.chance(1, 6) {
+        text.extend(end);
+    }
+    for (index, record) in records.iter().enumerate() {
+        if index > 0 {
+            text.extend(end);
+        }
+        put_digits(random, &mut text, record, lower_of_four);
+        if mixed_ends {
+            end = random.pick(&ends);
+        }
+    }
+    if random.chance(2, 3) {
+        text.extend(end);
+    }
+    text
+}
+
+/// Only hex digits change case: the letter and the type are kept.
+fn put_digits(random: &mut Random, text: &mut Vec<u8>, record: &[u8], lower_of_four: u64) {
+    for (index, &character) in record.iter().enumerate() {
+        let digit = index >= 2 && (b'A'..=b'F').contains(&character);
+        if digit && random.chance(lower_of_four, 4) {
+            text.push(character.to_ascii_lowercase());
+        } else {
+            text.push(character);
+        }
+    }
+}

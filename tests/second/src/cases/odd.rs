@@ -1,0 +1,171 @@
+//! Cases with no single fault in mind: edges, mutations, odd texts, and
+//! windows that are not allowed.
+
+use super::draft::{count_record, data_kind, end_kind, join, reach, terminator, Draft};
+use super::{any_window, contents, in_window, valid, Limits, LoadCase, TOP};
+use crate::random::Random;
+
+/// Row 1, whatever the text is.
+pub fn unfit_window(random: &mut Random, limits: Limits) -> LoadCase {
+    let mut case = if random.chance(1, 2) {
+        valid::accepted(random, limits)
+    } else {
+        mutated(random, limits)
+    };
+    match random.below(4) {
+        0 | 1 => pass_top(random, limits, &mut case),
+        2 => unequal_marks(random, limits, &mut case),
+        _ => {
+            pass_top(random, limits, &mut case);
+            unequal_marks(random, limits, &mut case);
+        }
+    }
+    case
+}
+
+/// A window that passes 2^32, often by one cell.
+fn pass_top(random: &mut Random, limits: Limits, case: &mut LoadCase) {
+    let length = random.size(2, limits.window);
+    let some = random.size(1, length - 1);
+    let past = random.pick(&[1, some]);
+    case.base = (TOP - length as u64) as u32 + past as u32;
+    case.memory = contents(random, length);
+    case.marks = contents(random, length);
+}
+
+/// Marks of another length than the memory.
+fn unequal_marks(random: &mut Random, limits: Limits, case: &mut LoadCase) {
+    let right = case.memory.len();
+    let any = random.size(0, limits.window);
+    let other = random.pick(&[0, right.saturating_sub(1), right + 1, any]);
+    let other = if other == right { right + 1 } else { other };
+    case.marks = contents(random, other);
+}
+
+/// Short records near the ends of the window and of the widths.
+pub fn at_edges(random: &mut Random, limits: Limits) -> LoadCase {
+    let (low, high) = any_window(random, limits);
+    let width = random.size(2, 4);
+    let near = |width: usize, random: &mut Random| {
+        let edge = random.pick(&[0, low, low, high, high, reach(2), reach(3), reach(4)]);
+        let address = (edge + random.below(5)).saturating_sub(2);
+        address.min(reach(width) - 1)
+    };
+    let mut records = Vec::new();
+    let number = random.size(1, 4);
+    for _ in 0..number {
+        let other = random.size(2, 4);
+        let own = random.pick(&[width, width, width, width, width, other]);
+        let length = random.size(0, 4);
+        let data = random.bytes(length);
+        records.push(Draft::new(data_kind(own), near(own, random), &data).text());
+    }
+    if random.chance(1, 3) {
+        records.push(count_record(number));
+    }
+    records.push(Draft::new(end_kind(width), near(width, random), &[]).text());
+    let text = join(random, &records);
+    in_window(random, text, (low, high))
+}
+
+/// An accepted text with one or two changes of a character or a stretch.
+pub fn mutated(random: &mut Random, limits: Limits) -> LoadCase {
+    let mut case = valid::accepted(random, limits);
+    for _ in 0..random.size(1, 2) {
+        mutate(random, &mut case.text);
+    }
+    case
+}
+
+fn mutate(random: &mut Random, text: &mut Vec<u8>) {
+    if text.is_empty() {
+        return;
+    }
+    let place = random.size(0, text.len() - 1);
+    match random.below(8) {
+        0 | 1 => text[place] = any_character(random),
+        2 | 3 => text.insert(place, any_character(random)),
+        4 => drop(text.remove(place)),
+        5 => text[place] ^= random.pick(&[0x01, 0x20, 0x80]),
+        6 => text.truncate(place),
+        _ => {
+            let end = random.size(place, text.len());
+            let stretch = text[place..end].to_vec();
+            text.extend(stretch);
+        }
+    }
+}
+
+fn any_character(random: &mut Random) -> u8 {
+    let any = random.byte();
+    random.pick(&[
+        b'0', b'1', b'9', b'A', b'f', b'S', b'\r', b'\n', 0, b'G', any,
+    ])
+}
+
+/// Characters of a few kinds in no order.
+pub fn scrambled(random: &mut Random, limits: Limits) -> LoadCase {
+    let window = any_window(random, limits);
+    let length = random.size(0, 40);
+    let text = (0..length)
+        .map(|_| random.pick(b"SSS0001359AFaf\r\n\n\0\xFF"))
+        .collect();
+    in_window(random, text, window)
+}
+
+const TEXTS: &[&[u8]] = &[
+    b"",
+    b"\n",
+    b"\r\n\r\r\n\n",
+    b"\0",
+    b"S",
+    b"S9",
+    b"S90",
+    b"S900",
+    b"S100",
+    b"S101FE",
+    b"S10200FD",
+    b"S9030000FC",
+    b"\n\rS9030000fc\r\r",
+    b"s9030000FC",
+    b"S9030000FD",
+    b" S9030000FC",
+    b"S9030000FC ",
+    b"S9030000FC\0",
+    b"S9030000FC\nx",
+    b"S9030000FC\n\n\r\nS9030000FC\n",
+    b"S804000AF001",
+    b"S804000AF0001",
+    b"S70500000000FA",
+    b"S70400000000FB",
+    b"S50500000050AA",
+    b"S5030000FC\nS0030000FC\nS9030000FC",
+    b"S0030000FC\nS0030000FC\nS9030000FC",
+    b"S1030000FC\nS804000000FB",
+    b"S1030000FC\nS5030001FB\nS9030000FC",
+    b"S4030000FC\nS9030000FC",
+    b"S6030000FC\nS9030000FC",
+];
+
+/// Texts that are odd in themselves, and those of the longest records.
+pub fn fixed(random: &mut Random, limits: Limits) -> LoadCase {
+    let window = any_window(random, limits);
+    let text = if random.chance(2, 3) {
+        random.pick(TEXTS).to_vec()
+    } else {
+        let kind = random.pick(b"0123");
+        let width = usize::from(kind.max(b'1') - b'0') + 1;
+        let mut longest = Draft::new(kind, window.0 % reach(width), &random.bytes(254 - width));
+        longest.checksum_error = random.pick(&[0, 0, 0, 1]);
+        let mut longest = longest.text();
+        // 514 characters, or one less, or one more.
+        match random.below(3) {
+            0 => drop(longest.pop()),
+            1 => longest.push(b'0'),
+            _ => {}
+        }
+        let end = terminator(random, width);
+        join(random, &[longest, end])
+    };
+    in_window(random, text, window)
+}

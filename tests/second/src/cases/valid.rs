@@ -1,0 +1,115 @@
+//! Texts that are accepted, and the same without their terminator.
+
+use super::draft::{count_record, data_kind, join, most_data, reach, terminator, Draft};
+use super::{any_window, in_window, Limits, LoadCase};
+use crate::random::Random;
+
+/// A text in any style that fits its window.
+pub fn accepted(random: &mut Random, limits: Limits) -> LoadCase {
+    let window = any_window(random, limits);
+    let width = fitting_width(random, window);
+    let records = finished(random, limits, window, width);
+    let text = join(random, &records);
+    in_window(random, text, window)
+}
+
+/// A text that is right but for its missing terminator: row 14.
+pub fn unfinished(random: &mut Random, limits: Limits) -> LoadCase {
+    let window = any_window(random, limits);
+    let width = fitting_width(random, window);
+    let mut records = finished(random, limits, window, width);
+    records.pop();
+    let text = match random.below(8) {
+        0 => Vec::new(),
+        1 => join(random, &[Vec::new(), Vec::new()]),
+        _ => join(random, &records),
+    };
+    in_window(random, text, window)
+}
+
+/// A width, mostly one that reaches into the window.
+fn fitting_width(random: &mut Random, (low, _): (u64, u64)) -> usize {
+    loop {
+        let width = random.size(2, 4);
+        if low < reach(width) || random.chance(1, 8) {
+            return width;
+        }
+    }
+}
+
+/// Header, data and count records with the terminator last.
+fn finished(random: &mut Random, limits: Limits, window: (u64, u64), width: usize) -> Vec<Vec<u8>> {
+    let mut data = data_records(random, limits, window, width);
+    random.shuffle(&mut data);
+    let end_width = if data.is_empty() {
+        random.size(2, 4)
+    } else {
+        width
+    };
+    let mut records = Vec::new();
+    if random.chance(2, 3) {
+        records.push(header(random, limits));
+    }
+    let count_chance = random.pick(&[0, 1, 3]);
+    for (number, record) in data.iter().enumerate() {
+        while random.chance(count_chance, 6) {
+            records.push(count_record(number));
+        }
+        records.push(record.clone());
+    }
+    while random.chance(1, 3) {
+        records.push(count_record(data.len()));
+    }
+    records.push(terminator(random, end_width));
+    records
+}
+
+/// A header of any length; its address has no meaning.
+fn header(random: &mut Random, limits: Limits) -> Vec<u8> {
+    let most = limits.data.min(most_data(2));
+    let between = random.size(0, most);
+    let length = random.pick(&[0, 3, most, between]);
+    let address = random.below(1 << 16);
+    let address = random.pick(&[0, 0, 0xFFFF, address]);
+    let data = random.bytes(length);
+    Draft::new(b'0', address, &data).text()
+}
+
+/// Data records without overlap. The window is cut at random and some of the
+/// pieces are used, so that records touch each other and the window's ends.
+fn data_records(
+    random: &mut Random,
+    limits: Limits,
+    (low, high): (u64, u64),
+    width: usize,
+) -> Vec<Vec<u8>> {
+    let high = high.min(reach(width)).max(low);
+    let mut cuts = vec![low, high];
+    for _ in 0..random.size(0, limits.records) {
+        cuts.push(random.between(low, high));
+    }
+    cuts.sort_unstable();
+    let mut records = Vec::new();
+    for piece in cuts.windows(2) {
+        let most = limits.data.min(most_data(width)) as u64;
+        let length = (piece[1] - piece[0]).min(most);
+        let address = random.pick(&[piece[0], piece[1] - length]);
+        if length > 0 && random.chance(3, 4) {
+            let data = random.bytes(length as usize);
+            records.push(Draft::new(data_kind(width), address, &data).text());
+        }
+    }
+    let most_empty = if random.chance(1, 40) { 600 } else { 2 };
+    for _ in 0..random.size(0, most_empty) {
+        records.push(empty_record(random, (low, high), width));
+    }
+    records
+}
+
+/// A data record without data, which may stand anywhere.
+fn empty_record(random: &mut Random, (low, high): (u64, u64), width: usize) -> Vec<u8> {
+    let last = reach(width) - 1;
+    let between = random.between(0, last);
+    let address = random.pick(&[0, last, low, high, low.saturating_sub(1), between]);
+    Draft::new(data_kind(width), address.min(last), &[]).text()
+}

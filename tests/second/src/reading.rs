@@ -1,0 +1,474 @@
+//! The loader and the writer, in the plainest reading of the rules.
+//!
+//! Every row of the refusal table is a function named after its number, and
+//! `ROWS` holds those of one record in the order in which they are tried.
+
+/// The most data bytes a header can have.
+pub const HEADER_ROOM: usize = 252;
+
+/// The most characters a record can have.
+const LONGEST: usize = 514;
+
+/// Why a load was refused; all three are 0 for an accepted one.
+#[derive(Clone, Copy, Debug, Default, PartialEq, Eq)]
+pub struct Refusal {
+    pub number: u32,
+    pub record: usize,
+    pub place: usize,
+}
+
+/// The answer of the loader. After a refusal all but `refusal` is zero.
+#[derive(Clone, Debug, PartialEq, Eq)]
+pub struct Loaded {
+    pub refusal: Refusal,
+    pub header_len: usize,
+    pub header: [u8; HEADER_ROOM],
+    pub entry: u32,
+    pub records: usize,
+    pub cells: usize,
+}
+
+impl Loaded {
+    fn refused(number: u32, record: usize, place: usize) -> Loaded {
+        Loaded {
+            refusal: Refusal {
+                number,
+                record,
+                place,
+            },
+            header_len: 0,
+            header: [0; HEADER_ROOM],
+            entry: 0,
+            records: 0,
+            cells: 0,
+        }
+    }
+}
+
+/// The answer of the writer: number 0 and the text's length, or a refusal with
+/// length 0.
+#[derive(Clone, Copy, Debug, PartialEq, Eq)]
+pub struct Written {
+    pub number: u32,
+    pub place: usize,
+    pub length: usize,
+}
+
+/// Loads a text into the window from `base` on.
+pub fn load(text: &[u8], base: u32, memory: &mut [u8], marks: &mut [u8]) -> Loaded {
+    // No answer depends on what the marks held before.
+    marks.fill(0);
+    if row_1(base, memory.len(), marks.len()) {
+        return Loaded::refused(1, 0, 0);
+    }
+    let mut reader = Reader::new(base, memory.len());
+    for record in records(text) {
+        if let Some(number) = reader.first_row(&record) {
+            return Loaded::refused(number, reader.taken + 1, place_of(number, &record));
+        }
+        reader.take(&record);
+    }
+    let Some(entry) = reader.entry else {
+        return Loaded::refused(14, reader.taken, text.len());
+    };
+    // Nothing was stored so far: a refusal must leave the memory as it was.
+    let cells = reader.store(memory, marks);
+    let mut header = [0; HEADER_ROOM];
+    header[..reader.header.len()].copy_from_slice(&reader.header);
+    Loaded {
+        refusal: Refusal::default(),
+        header_len: reader.header.len(),
+        header,
+        entry,
+        records: reader.data_records,
+        cells,
+    }
+}
+
+/// All rows that apply to the first refused record of a text, in rising order;
+/// none if no record is refused. The first of them is the refusal number.
+/// Rows 1 and 14 are about no record and left out.
+pub fn rows_of_refused_record(text: &[u8], base: u32, length: usize) -> Vec<u32> {
+    let mut reader = Reader::new(base, length);
+    for record in records(text) {
+        let rows = reader.all_rows(&record);
+        if !rows.is_empty() {
+            return rows;
+        }
+        reader.take(&record);
+    }
+    Vec::new()
+}
+
+/// Marks and memory differ in length, or the window passes 2^32.
+fn row_1(base: u32, memory: usize, marks: usize) -> bool {
+    marks != memory || u64::from(base) + memory as u64 > 1 << 32
+}
+
+/// The place is that of the record's first character, except in row 5.
+fn place_of(number: u32, record: &Record) -> usize {
+    match record.bad_digit() {
+        Some(index) if number == 5 => record.place + index,
+        _ => record.place,
+    }
+}
+
+#[derive(Clone, Copy, PartialEq, Eq)]
+enum Role {
+    Header,
+    Data,
+    Count,
+    Terminator,
+}
+
+/// A line of the text that is not empty.
+///
+/// The fields can be asked of any line: a digit that is missing or bad counts
+/// as zero, and the last byte pair as the checksum. So each row stands alone,
+/// and rows 4 to 6 turn away the lines where this would matter.
+struct Record<'a> {
+    place: usize,
+    line: &'a [u8],
+}
+
+/// The longest stretches free of CR and LF.
+fn records(text: &[u8]) -> Vec<Record<'_>> {
+    let mut found = Vec::new();
+    let mut place = 0;
+    for line in text.split(|&c| c == b'\r' || c == b'\n') {
+        if !line.is_empty() {
+            found.push(Record { place, line });
+        }
+        place += line.len() + 1;
+    }
+    found
+}
+
+impl Record<'_> {
+    /// The type table: role and number of address bytes.
+    fn kind(&self) -> Option<(Role, usize)> {
+        match self.line.get(1)? {
+            b'0' => Some((Role::Header, 2)),
+            b'1' => Some((Role::Data, 2)),
+            b'2' => Some((Role::Data, 3)),
+            b'3' => Some((Role::Data, 4)),
+            b'5' => Some((Role::Count, 2)),
+            b'7' => Some((Role::Terminator, 4)),
+            b'8' => Some((Role::Terminator, 3)),
+            b'9' => Some((Role::Terminator, 2)),
+            _ => None,
+        }
+    }
+
+    fn is(&self, role: Role) -> bool {
+        self.kind().is_some_and(|(own, _)| own == role)
+    }
+
+    /// The number of address bytes.
+    fn width(&self) -> usize {
+        self.kind().map_or(0, |(_, width)| width)
+    }
+
+    /// The index of the first character from the third on that is no digit.
+    fn bad_digit(&self) -> Option<usize> {
+        (2..self.line.len()).find(|&index| hex_value(self.line[index]).is_none())
+    }
+
+    fn digit(&self, index: usize) -> u8 {
+        let character = self.line.get(index).copied();
+        character.and_then(hex_value).unwrap_or(0)
+    }
+
+    /// Byte pair `index`, where pair 0 is the count.
+    fn byte(&self, index: usize) -> u8 {
+        16 * self.digit(2 + 2 * index) + self.digit(3 + 2 * index)
+    }
+
+    /// The index of the checksum's byte pair.
+    fn last(&self) -> usize {
+        (self.line.len() / 2).saturating_sub(2)
+    }
+
+    fn address(&self) -> u64 {
+        let bytes = (1..=self.width()).map(|index| self.byte(index));
+        bytes.fold(0, |value, byte| 256 * value + u64::from(byte))
+    }
+
+    fn data(&self) -> Vec<u8> {
+        let first = 1 + self.width();
+        (first..self.last()).map(|index| self.byte(index)).collect()
+    }
+
+    /// The address after the record's last data byte.
+    fn end(&self) -> u64 {
+        self.address() + self.data().len() as u64
+    }
+}
+
+fn hex_value(character: u8) -> Option<u8> {
+    match character {
+        b'0'..=b'9' => Some(character - b'0'),
+        b'A'..=b'F' => Some(character - b'A' + 10),
+        b'a'..=b'f' => Some(character - b'a' + 10),
+        _ => None,
+    }
+}
+
+/// What the records taken so far have said.
+struct Reader {
+    base: u64,
+    cells: Vec<Option<u8>>,
+    header: Vec<u8>,
+    width: Option<usize>,
+    taken: usize,
+    data_records: usize,
+    entry: Option<u32>,
+}
+
+type Row = fn(&Reader, &Record) -> bool;
+
+/// The rows tried for each record, from the top.
+const ROWS: [(u32, Row); 12] = [
+    (2, row_2),
+    (3, row_3),
+    (4, row_4),
+    (5, row_5),
+    (6, row_6),
+    (7, row_7),
+    (8, row_8),
+    (9, row_9),
+    (10, row_10),
+    (11, row_11),
+    (12, row_12),
+    (13, row_13),
+];
+
+/// The record stands after the terminator.
+fn row_2(reader: &Reader, _: &Record) -> bool {
+    reader.entry.is_some()
+}
+
+/// More than 514 characters.
+fn row_3(_: &Reader, record: &Record) -> bool {
+    record.line.len() > LONGEST
+}
+
+/// Fewer than 4 characters, no `S`, or a type that is not in the table.
+fn row_4(_: &Reader, record: &Record) -> bool {
+    record.line.len() < 4 || record.line[0] != b'S' || record.kind().is_none()
+}
+
+/// A character from the third on is no hex digit.
+fn row_5(_: &Reader, record: &Record) -> bool {
+    record.bad_digit().is_some()
+}
+
+/// The count does not agree with the record's length or its type.
+fn row_6(_: &Reader, record: &Record) -> bool {
+    let count = usize::from(record.byte(0));
+    let least = record.width() + 1;
+    let without_data = record.is(Role::Count) || record.is(Role::Terminator);
+    record.line.len() != 4 + 2 * count || count < least || (without_data && count != least)
+}
+
+/// The checksum differs.
+fn row_7(_: &Reader, record: &Record) -> bool {
+    let summed = (0..record.last()).map(|index| record.byte(index));
+    let sum = summed.fold(0u8, |sum, byte| sum.wrapping_add(byte));
+    record.byte(record.last()) != 255 - sum
+}
+
+/// An S0 that is not the first record.
+fn row_8(reader: &Reader, record: &Record) -> bool {
+    record.is(Role::Header) && reader.taken > 0
+}
+
+/// A data record or terminator of another width than the first data record.
+fn row_9(reader: &Reader, record: &Record) -> bool {
+    let has_width = record.is(Role::Data) || record.is(Role::Terminator);
+    has_width && reader.width.is_some_and(|width| width != record.width())
+}
+
+/// An S5 with another number than that of the data records before it.
+fn row_10(reader: &Reader, record: &Record) -> bool {
+    record.is(Role::Count) && record.address() != reader.data_records as u64
+}
+
+/// Address + data bytes passes what the record's width can address.
+fn row_11(_: &Reader, record: &Record) -> bool {
+    record.is(Role::Data) && record.end() > 1 << (8 * record.width())
+}
+
+/// Some data byte is addressed outside the window.
+fn row_12(reader: &Reader, record: &Record) -> bool {
+    let window_end = reader.base + reader.cells.len() as u64;
+    let outside = record.address() < reader.base || record.end() > window_end;
+    record.is(Role::Data) && !record.data().is_empty() && outside
+}
+
+/// Some cell was already addressed.
+fn row_13(reader: &Reader, record: &Record) -> bool {
+    let mut cells = record.address()..record.end();
+    record.is(Role::Data) && cells.any(|address| reader.addressed(address))
+}
+
+impl Reader {
+    fn new(base: u32, length: usize) -> Reader {
+        Reader {
+            base: u64::from(base),
+            cells: vec![None; length],
+            header: Vec::new(),
+            width: None,
+            taken: 0,
+            data_records: 0,
+            entry: None,
+        }
+    }
+
+    fn first_row(&self, record: &Record) -> Option<u32> {
+        let found = ROWS.iter().find(|(_, applies)| applies(self, record));
+        found.map(|&(number, _)| number)
+    }
+
+    fn all_rows(&self, record: &Record) -> Vec<u32> {
+        let found = ROWS.iter().filter(|(_, applies)| applies(self, record));
+        found.map(|&(number, _)| number).collect()
+    }
+
+    fn addressed(&self, address: u64) -> bool {
+        let index = address.checked_sub(self.base);
+        let cell = index.and_then(|index| self.cells.get(index as usize));
+        matches!(cell, Some(Some(_)))
+    }
+
+    /// Takes in a record to which no row applies.
+    fn take(&mut self, record: &Record) {
+        self.taken += 1;
+        if record.is(Role::Header) {
+            self.header = record.data();
+        }
+        if record.is(Role::Data) {
+            self.width = Some(record.width());
+            self.data_records += 1;
+            for (address, byte) in (record.address()..).zip(record.data()) {
+                self.cells[(address - self.base) as usize] = Some(byte);
+            }
+        }
+        if record.is(Role::Terminator) {
+            self.entry = Some(record.address() as u32);
+        }
+    }
+
+    /// Stores and marks the addressed cells and gives their number. The marks
+    /// are all zero before.
+    fn store(&self, memory: &mut [u8], marks: &mut [u8]) -> usize {
+        let mut stored = 0;
+        for (index, cell) in self.cells.iter().enumerate() {
+            if let Some(byte) = cell {
+                memory[index] = *byte;
+                marks[index] = 1;
+                stored += 1;
+            }
+        }
+        stored
+    }
+}
+
+/// Writes the canonical text of the marked cells.
+pub fn write(
+    base: u32,
+    memory: &[u8],
+    marks: &[u8],
+    header: &[u8],
+    entry: u32,
+    out: &mut [u8],
+) -> Written {
+    let refused = |number, place| Written {
+        number,
+        place,
+        length: 0,
+    };
+    if row_1(base, memory.len(), marks.len()) {
+        return refused(1, 0);
+    }
+    if header.len() > HEADER_ROOM {
+        return refused(15, 0);
+    }
+    if let Some(index) = marks.iter().position(|&mark| mark > 1) {
+        return refused(16, index);
+    }
+    let text = canonical(base, memory, marks, header, entry);
+    if text.len() > out.len() {
+        return refused(17, text.len());
+    }
+    out[..text.len()].copy_from_slice(&text);
+    Written {
+        number: 0,
+        place: 0,
+        length: text.len(),
+    }
+}
+
+/// The canonical text, for arguments to which rows 1, 15 and 16 do not apply.
+pub fn canonical(base: u32, memory: &[u8], marks: &[u8], header: &[u8], entry: u32) -> Vec<u8> {
+    let rows = rows_of_cells(base, memory, marks);
+    let last_cell = rows
+        .last()
+        .map_or(0, |row| row.address + row.data.len() as u64 - 1);
+    let (width, data_kind, end_kind) = match last_cell.max(u64::from(entry)) {
+        0..=0xFFFF => (2, b'1', b'9'),
+        0x1_0000..=0xFF_FFFF => (3, b'2', b'8'),
+        _ => (4, b'3', b'7'),
+    };
+    let mut text = Vec::new();
+    put_record(&mut text, b'0', 2, 0, header);
+    for row in &rows {
+        put_record(&mut text, data_kind, width, row.address, &row.data);
+    }
+    // The count record has two bytes for the number, so a larger one has none.
+    if rows.len() <= 0xFFFF {
+        put_record(&mut text, b'5', 2, rows.len() as u64, &[]);
+    }
+    put_record(&mut text, end_kind, width, u64::from(entry), &[]);
+    text
+}
+
+/// Consecutive cells that become one data record.
+struct CellRow {
+    address: u64,
+    data: Vec<u8>,
+}
+
+/// The longest runs of marked cells that cross no multiple of 16. It is the
+/// address that counts here, not the index in the window.
+fn rows_of_cells(base: u32, memory: &[u8], marks: &[u8]) -> Vec<CellRow> {
+    let mut rows: Vec<CellRow> = Vec::new();
+    let mut in_run = false;
+    for (address, (&byte, &mark)) in (u64::from(base)..).zip(memory.iter().zip(marks)) {
+        if mark == 1 {
+            match rows.last_mut() {
+                Some(row) if in_run && address % 16 != 0 => row.data.push(byte),
+                _ => rows.push(CellRow {
+                    address,
+                    data: vec![byte],
+                }),
+            }
+        }
+        in_run = mark == 1;
+    }
+    rows
+}
+
+fn put_record(text: &mut Vec<u8>, kind: u8, width: usize, address: u64, data: &[u8]) {
+    let mut bytes = vec![(width + data.len() + 1) as u8];
+    bytes.extend(&address.to_be_bytes()[8 - width..]);
+    bytes.extend(data);
+    let sum = bytes.iter().fold(0u8, |sum, &byte| sum.wrapping_add(byte));
+    bytes.push(255 - sum);
+    text.extend([b'S', kind]);
+    for byte in bytes {
+        text.push(b"0123456789ABCDEF"[usize::from(byte / 16)]);
+        text.push(b"0123456789ABCDEF"[usize::from(byte % 16)]);
+    }
+    text.push(b'\n');
+}

@@ -1,0 +1,110 @@
+//! Whether the generated cases reach every refusal and every pair of rows.
+
+use second::cases::{
+    aimed_number, aimed_write_number, can_meet, large_load_cases, load_case, write_case, FULL,
+    SMALL,
+};
+use second::reading::{load, rows_of_refused_record, write};
+use std::collections::BTreeMap;
+
+const CASES: u64 = 50_000;
+
+#[test]
+fn every_load_refusal_and_pair() {
+    let mut numbers = BTreeMap::new();
+    let mut pairs = BTreeMap::new();
+    for index in 0..CASES {
+        let mut case = load_case(1, index, FULL);
+        let (memory, marks) = (&mut case.memory, &mut case.marks);
+        let refusal = load(&case.text, case.base, memory, marks).refusal;
+        *numbers.entry(refusal.number).or_insert(0) += 1;
+        let aimed = aimed_number(index);
+        assert!(
+            aimed.is_none_or(|aimed| aimed == refusal.number),
+            "case {index}"
+        );
+        if refusal.number == 1 {
+            continue;
+        }
+        let rows = rows_of_refused_record(&case.text, case.base, case.memory.len());
+        let first = rows.first().copied();
+        assert_eq!(first, Some(refusal.number).filter(|&n| n != 0 && n != 14));
+        for (at, &upper) in rows.iter().enumerate() {
+            for &lower in &rows[at + 1..] {
+                *pairs.entry((upper, lower)).or_insert(0) += 1;
+            }
+        }
+    }
+    println!("load refusals: {numbers:?}");
+    println!("pairs of rows: {pairs:?}");
+    assert!((0..=14).all(|number| numbers.contains_key(&number)));
+    let all = (2..=13).flat_map(|upper| (upper + 1..=13).map(move |lower| (upper, lower)));
+    for (upper, lower) in all {
+        let came_up = pairs.contains_key(&(upper, lower));
+        assert_eq!(came_up, can_meet(upper, lower), "rows {upper} and {lower}");
+    }
+}
+
+#[test]
+fn every_write_refusal() {
+    let mut numbers = BTreeMap::new();
+    for index in 0..CASES {
+        let case = write_case(1, index, FULL);
+        let mut out = vec![0; case.room];
+        let (memory, marks) = (&case.memory, &case.marks);
+        let written = write(case.base, memory, marks, &case.header, case.entry, &mut out);
+        assert_eq!(written.number, aimed_write_number(index), "case {index}");
+        *numbers.entry(written.number).or_insert(0) += 1;
+    }
+    println!("write refusals: {numbers:?}");
+    let found: Vec<u32> = numbers.into_keys().collect();
+    assert_eq!(found, [0, 1, 15, 16, 17]);
+}
+
+#[test]
+fn small_cases_are_small_and_reach_all() {
+    for seed in 0..20 {
+        let mut numbers = BTreeMap::new();
+        for index in 0..300 {
+            let mut case = load_case(seed, index, SMALL);
+            let (memory, marks) = (&mut case.memory, &mut case.marks);
+            let number = load(&case.text, case.base, memory, marks).refusal.number;
+            let mut lines = case.text.split(|&c| c == b'\r' || c == b'\n');
+            let about_row_3 = lines.any(|line| line.len() >= 513);
+            assert!(case.text.len() <= if about_row_3 { 1_000 } else { 400 });
+            assert!(case.memory.len() <= 64 && case.marks.len() <= 65);
+            *numbers.entry(number).or_insert(0) += 1;
+        }
+        assert!((0..=14).all(|number| numbers.get(&number).is_some_and(|&n| n >= 5)));
+    }
+}
+
+#[test]
+fn large_cases() {
+    let refusals: Vec<(u32, usize)> = large_load_cases(2)
+        .into_iter()
+        .map(|mut case| {
+            let (memory, marks) = (&mut case.memory, &mut case.marks);
+            let refusal = load(&case.text, case.base, memory, marks).refusal;
+            (refusal.number, refusal.record)
+        })
+        .collect();
+    let wanted = [
+        (0, 0),
+        (10, 65_536),
+        (0, 0),
+        (10, 65_537),
+        (10, 65_537),
+        (0, 0),
+    ];
+    assert_eq!(refusals, wanted);
+}
+
+#[test]
+fn cases_are_drawn_again_alike() {
+    for index in 0..500 {
+        assert_eq!(load_case(9, index, FULL), load_case(9, index, FULL));
+        assert_eq!(write_case(9, index, FULL), write_case(9, index, FULL));
+    }
+    assert_ne!(load_case(9, 2, FULL), load_case(10, 2, FULL));
+}
