@@ -2,6 +2,7 @@
 use mathlib.Core.Path.{_≡_, refl, ap, _∙_}
 use Prim.Native.Nat.{ℕ, zero, suc, _+_, _*_, _/_, _%_, _^_, _≤_, _<_}
 use native.Mathlib.Nat.{div-lt-iff-lt-mul, div-add-mod', mul-suc, mul-le-mul-right}
+use native.Mathlib.Numerals.{add-one}
 use native.Mathlib.Omega.{arith}
 use mathlib.Core.List.{List, [], _∷_, _++_}
 use lib.Dec.{lit<}
@@ -44,3 +45,11 @@ numberAfter-small n (b ∷ bs) h =
 -- at most w bytes stand for less than 2 ^ (8 * w)
 pub number-small : (bs : List ℕ) (w : ℕ) → length bs ≤ w → Bytes bs → number bs < 2 ^ (8 * w)
 number-small bs w l h = omega (arith, numberAfter-small 0 bs h, pow-mono {i = 8 * length bs} {j = 8 * w} (omega arith))
+
+-- ---- a number as a loop reads it, byte by byte
+
+pub one-more : (a b k : ℕ) → a < 2 ^ (8 * k) → b < 256 → a * 256 + b < 2 ^ (8 * (k + 1))
+one-more a b k h l = rw (add-one k, eight k) (omega arith)
+
+pub three-bytes : (a k : ℕ) → a < 2 ^ (8 * k) → k < 4 → a < 2 ^ 24
+three-bytes a k h l = omega (arith, pow-mono {i = 8 * k} {j = 24} (omega arith))

@@ -1,1 +1,113 @@
 // Hex digits, bytes as pairs of them, and numbers as bytes.
+ghost use mathlib.Core.Path.{_≡_};
+ghost use Prim.Native.Nat.{_+_, _*_, _%_, _≤_, _<_};
+ghost use lib.ListN.{length};
+ghost use Rattle.hex.specs.Digits.{isHex, value, byteOf, bytes, firstBad};
+ghost use Rattle.hex.specs.Numbers.{number, sum};
+ghost use Rattle.hex.specs.Tables.{digitOr16, digitTable};
+
+// The value of a digit of either case; 16 for a character that is none.
+pub fn digit_of(c: u8) -> u8
+    ensures { λ r. ⌜ r ≡ digitOr16 c ⌝ }
+{
+    match c {
+        48..=57 => c - 48,
+        65..=70 => c - 55,
+        97..=102 => c - 87,
+        _ => 16,
+    }
+}
+
+// digit_of at every character. A load makes it once, since a look into a table is faster than the branches.
+pub fn digit_table() -> [u8; 256]
+    ensures { λ r. ⌜ r ≡ digitTable ⌝ }
+{
+    let mut table = [16u8; 256];
+    let mut i: usize = 0;
+    while i < 256 {
+        table[i] = digit_of(i as u8);
+        i += 1;
+    }
+    table
+}
+
+// Is it a hex digit?
+pub fn is_digit(table: &[u8; 256], c: u8) -> bool
+    requires { ⌜ now table ≡ digitTable ⌝ }
+    ensures { λ r. ⌜ r ≡ isHex c ⌝ }
+{
+    table[c as usize] < 16
+}
+
+// What a hex digit stands for; 0 for what is none.
+pub fn value_of(table: &[u8; 256], c: u8) -> u8
+    requires { ⌜ now table ≡ digitTable ⌝ }
+    ensures { λ r. ⌜ (r ≡ value c) × (r < 16) ⌝ }
+{
+    table[c as usize] % 16
+}
+
+// The byte that two digits stand for.
+pub fn byte_of(table: &[u8; 256], c: u8, d: u8) -> u8
+    requires { ⌜ now table ≡ digitTable ⌝ }
+    ensures { λ r. ⌜ r ≡ byteOf c d ⌝ }
+{
+    16 * value_of(table, c) + value_of(table, d)
+}
+
+// The index of the first character that is no hex digit; the length where there is none.
+pub fn first_bad(table: &[u8; 256], chars: &[u8]) -> usize
+    requires { ⌜ now table ≡ digitTable ⌝ }
+    ensures { λ r. ⌜ r ≡ firstBad (now (chars .entry)) ⌝ }
+{
+    let mut i: usize = 0;
+    while i < chars.len() {
+        if !is_digit(table, chars[i]) {
+            return i;
+        }
+        i += 1;
+    }
+    i
+}
+
+// The sum, modulo 256, of the bytes that pairs of digits stand for.
+pub fn sum_pairs(table: &[u8; 256], chars: &[u8]) -> u8
+    requires { ⌜ now table ≡ digitTable ⌝ }
+    ensures { λ r. ⌜ r ≡ sum (bytes (now (chars .entry))) % 256 ⌝ }
+{
+    let n = chars.len() / 2;
+    let mut s: u8 = 0;
+    let mut k: usize = 0;
+    while k < n {
+        s = std::num::wrapping_add_u8(s, byte_of(table, chars[2 * k], chars[2 * k + 1]));
+        k += 1;
+    }
+    s
+}
+
+// The number that up to four pairs of digits stand for.
+pub fn number_of(table: &[u8; 256], chars: &[u8]) -> u32
+    requires { ⌜ (now table ≡ digitTable) × (length (now chars) ≤ 8) ⌝ }
+    ensures { λ r. ⌜ r ≡ number (bytes (now (chars .entry))) ⌝ }
+{
+    let n = chars.len() / 2;
+    let mut a: u32 = 0;
+    let mut k: usize = 0;
+    while k < n {
+        a = a * 256 + (byte_of(table, chars[2 * k], chars[2 * k + 1]) as u32);
+        k += 1;
+    }
+    a
+}
+
+// Stores the bytes that pairs of digits stand for, one for each byte of the part that is lent.
+pub fn store_pairs(table: &[u8; 256], part: &mut [u8], chars: &[u8])
+    requires { ⌜ (now table ≡ digitTable) × (length (now chars) ≡ 2 * length (now part)) ⌝ }
+    ensures { λ _. ⌜ now (part .exit) ≡ bytes (now (chars .entry)) ⌝ }
+{
+    let mut k: usize = 0;
+    while k < part.len() {
+        part[k] = byte_of(table, chars[2 * k], chars[2 * k + 1]);
+        k += 1;
+    }
+}

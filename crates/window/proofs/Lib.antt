@@ -4,3 +4,4 @@ pub mod PlanLaws
 pub mod FillLaws
 pub mod RoomLaws
 pub mod ViewLaws
+pub mod MarkLaws

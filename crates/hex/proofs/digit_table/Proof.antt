@@ -1,0 +1,67 @@
+-- `digit_table` meets its contract. The loop's invariant: the first i entries are those of the table.
+use mathlib.Core.Path.{_≡_, refl, _∙_}
+use Prim.Native.Nat.{ℕ, _-_, _≤_, _<_}
+use mathlib.Core.List.{List, _++_, append-nil}
+use lib.ListN.{length, drop, replicate, drop-of-length-le}
+use native.Mathlib.Omega.{arith}
+use Rattle.hex.specs.Tables.{digitOr16, tableFrom, digitTable}
+use Rattle.hex.proofs.TableLaws.{table-more}
+use borrow.Author.Needs.{needs}
+use Rattle.hex.proofs.digit_table.Statement.{statement}
+use Rattle.hex.proofs.digit_table.Tie as tie
+
+-- the table before the loop
+abbrev sixteens : List ℕ
+sixteens = replicate 256 16
+
+abbrev Inv-loop : tie.InvT-loop
+Inv-loop table₀ i₀ table i = (i ≤ 256) × (table ≡ tableFrom digitOr16 0 i ++ drop i sixteens)
+
+abbrev μ-loop : tie.MeasureT-loop
+μ-loop table₀ i₀ table i = 256 - i
+
+loop-holds : tie.Need-loop-holds Inv-loop μ-loop
+loop-holds c = (omega arith, refl)
+
+cast-digit-of : tie.Need-cast-digit-of Inv-loop μ-loop
+cast-digit-of c = search needs
+
+digit-of-requires : tie.Need-digit-of-requires Inv-loop μ-loop
+digit-of-requires c κs = search needs
+
+array-write-table : tie.Need-array-write-table Inv-loop μ-loop
+array-write-table c = search needs
+
+add-i : tie.Need-add-i Inv-loop μ-loop
+add-i c = search needs
+
+loop-less : tie.Need-loop-less Inv-loop μ-loop
+loop-less c = search needs
+
+loop-again : tie.Need-loop-again Inv-loop μ-loop
+loop-again c =
+    let l = c .before .before .loop in
+    let h : l .i < 256 = omega arith in
+    (omega arith, rw (l .inv .1, c .digit-of .ensures) (table-more sixteens (l .i) h))
+
+returns : tie.Need-returns Inv-loop μ-loop
+unfolding digitTable
+returns c =
+    let l = c .before .loop in
+    let e : l .i ≡ 256 = omega arith in
+    l .inv .1 ∙ rw e
+
+pub digit-table-spec : {M : Type 1} → statement M
+digit-table-spec =
+    tie.close
+    (tie.spec
+    Inv-loop
+    μ-loop
+    loop-holds
+    cast-digit-of
+    digit-of-requires
+    array-write-table
+    add-i
+    loop-less
+    loop-again
+    returns)

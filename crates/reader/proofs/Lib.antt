@@ -1,0 +1,3 @@
+pub mod KindLaws
+pub mod WalkLaws
+pub mod ReadLaws
