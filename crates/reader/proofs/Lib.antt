@@ -1,3 +1,4 @@
 pub mod KindLaws
 pub mod WalkLaws
 pub mod ReadLaws
+pub mod FieldLaws

@@ -96,6 +96,10 @@ module _ (t : Summary) where
   later size [] u q = absurd (no-stop (refusal 14 (u .number) size) q)
   later size (l ∷ ls) u q = from-record size (suc (u .number)) (l .place) u ls (later size ls) (read (l .chars)) q
 
+  -- behind a first record the header is known
+  pub known-header : (size : ℕ) (ls : List Line) (u : State) → 0 < u .number → final (scan size u ls) ≡ done t → t .header ≡ u .header
+  known-header size ls u l q = later size ls u q .header l
+
 -- what an accepted plan of a text stores and says
 pub record Content (text : List ℕ) (t : Summary) : Type 0 where
   pub asks : stores (plan text) ≡ dataRecords (lines 0 text)

@@ -1,0 +1,115 @@
+-- `load` meets its contract: row 1, then a refusal of the check, or what the storing pass leaves.
+use lib.ListN.{length}
+use Rattle.load.proofs.LoadLaws.{answered-refused, cleared-is, cleared-again, lengths-differ, too-high, accepts, checked-refused, answered-accepted}
+use borrow.Author.Needs.{needs}
+use Rattle.load.proofs.load.Statement.{statement}
+use Rattle.load.proofs.load.Tie as tie
+
+fill-requires : tie.Need-fill-requires
+fill-requires c κs = search needs
+
+refused-answer-requires : tie.Need-refused-answer-requires
+refused-answer-requires c κs = search needs
+
+same-length : tie.Need-same-length
+same-length c = search needs
+
+returns : tie.Need-returns
+returns c =
+    let a = c .before .before .before .before .before .before .before .before .before .args in
+    let f = c .before .before .before .before .fill in
+    answered-refused (a .memory .now) (a .marks .now) _ _ (lengths-differ (a .base) (a .memory .now) (a .marks .now) (a .text .now) _ (f .ensures) (c .before .if1 .taken)) _ (c .refused-answer .ensures) _ (f .ensures)
+
+sub-if2 : tie.Need-sub-if2
+sub-if2 c = search needs
+
+refused-answer-requires-2 : tie.Need-refused-answer-requires-2
+refused-answer-requires-2 c κs = search needs
+
+same-length-2 : tie.Need-same-length-2
+same-length-2 c = search needs
+
+returns-2 : tie.Need-returns-2
+returns-2 c =
+    let a = c .before .before .before .before .before .before .before .before .before .before .args in
+    let f = c .before .before .before .before .before .fill in
+    answered-refused (a .memory .now) (a .marks .now) _ _ (too-high (a .base) (a .memory .now) (a .marks .now) (a .text .now) _ (f .ensures) (c .before .before .if1 .left) (c .before .if2 .taken)) _ (c .refused-answer2 .ensures) _ (f .ensures)
+
+digit-table-requires : tie.Need-digit-table-requires
+digit-table-requires c κs = search needs
+
+check-requires : tie.Need-check-requires
+check-requires c κs =
+    let f = c .before .before .before .before .before .before .before .fill in
+    (c .before .before .digit-table .ensures, cleared-is (length (c .before .before .before .before .before .before .before .before .before .before .before .before .args .marks .now)) _ (f .ensures))
+
+enum-known-checked : tie.Need-enum-known-checked
+enum-known-checked c = search needs
+
+fill-requires-2 : tie.Need-fill-requires-2
+fill-requires-2 c κs = search needs
+
+refused-answer-requires-3 : tie.Need-refused-answer-requires-3
+refused-answer-requires-3 c κs = search needs
+
+enum-known-checked-2 : tie.Need-enum-known-checked-2
+enum-known-checked-2 c = search needs
+
+store-all-requires : tie.Need-store-all-requires
+store-all-requires c κs =
+    let s = c .before .before .before .before .before .before .before .before .before .before .before .before .before .before .before .before .before .before .before .before in
+    let a = s .args in
+    let f = c .before .before .before .before .before .before .before .before .before .before .before .before .before .before .before .fill in
+    (c .before .before .before .before .before .before .before .before .before .before .digit-table .ensures, accepts (a .base) (a .memory .now) (a .marks .now) (a .text .now) _ (f .ensures) (c .before .before .before .before .before .before .before .before .before .before .before .before .if1 .left) (c .before .before .before .before .before .before .before .before .before .before .before .if2 .left) (s .fits .base .fits) _ _ _ _ (rw (c .before .before .before .checked2 .given .1) at (c .before .before .before .before .before .before .before .check .ensures)))
+
+header-of-requires : tie.Need-header-of-requires
+header-of-requires c κs = search needs
+
+same-length-3 : tie.Need-same-length-3
+same-length-3 c = search needs
+
+returns-3 : tie.Need-returns-3
+returns-3 c =
+    let s = c .before .before .before .before .before .before .before .before .before .before .before .before .before .before .before .before .before .before .before .before .before .before .before in
+    let a = s .args in
+    let f = c .before .before .before .before .before .before .before .before .before .before .before .before .before .before .before .before .before .before .fill in
+    answered-refused (a .memory .now) (a .marks .now) _ _ (checked-refused (a .base) (a .memory .now) (a .marks .now) (a .text .now) _ (f .ensures) (c .before .before .before .before .before .before .before .before .before .before .before .before .before .before .before .if1 .left) (c .before .before .before .before .before .before .before .before .before .before .before .before .before .before .if2 .left) (s .fits .base .fits) _ _ (rw (c .before .before .before .before .before .before .checked .given .1) at (c .before .before .before .before .before .before .before .before .before .before .check .ensures))) _ (c .refused-answer3 .ensures) _ (cleared-again (length (a .marks .now)) _ (c .before .before .before .before .before .before .before .before .before .before .check .last .1 .1 .1 .0) _ (f .ensures) (c .before .before .before .before .before .before .before .before .before .before .check .kept .1 .1 .1 .0) (c .before .before .before .fill2 .ensures))
+
+same-length-4 : tie.Need-same-length-4
+same-length-4 c = search needs
+
+same-length-5 : tie.Need-same-length-5
+same-length-5 c = search needs
+
+returns-4 : tie.Need-returns-4
+returns-4 c =
+    let s = c .before .before .before .before .before .before .before .before .before .before .before .before .before .before .before .before .before .before .before .before .before .before .before .before .before in
+    let a = s .args in
+    let f = c .before .before .before .before .before .before .before .before .before .before .before .before .before .before .before .before .before .before .before .before .fill in
+    answered-accepted (a .base) (a .memory .now) (a .marks .now) (a .text .now) _ (f .ensures) (c .before .before .before .before .before .before .before .before .before .before .before .before .before .before .before .before .before .if1 .left) (c .before .before .before .before .before .before .before .before .before .before .before .before .before .before .before .before .if2 .left) (s .fits .base .fits) _ _ _ _ _ _ (rw (c .before .before .before .before .before .before .before .before .checked2 .given .1) at (c .before .before .before .before .before .before .before .before .before .before .before .before .check .ensures)) (c .before .before .before .before .store-all .ensures) (c .header-of .ensures)
+
+pub load-spec : {M : Type 1} → statement M
+load-spec =
+    tie.close
+    (tie.spec
+    fill-requires
+    refused-answer-requires
+    same-length
+    returns
+    sub-if2
+    refused-answer-requires-2
+    same-length-2
+    returns-2
+    digit-table-requires
+    check-requires
+    enum-known-checked
+    fill-requires-2
+    refused-answer-requires-3
+    enum-known-checked-2
+    store-all-requires
+    header-of-requires
+    same-length-3
+    returns-3
+    same-length-4
+    same-length-5
+    returns-4)
