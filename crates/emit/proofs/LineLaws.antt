@@ -1,5 +1,5 @@
 -- A record's line: written piece by piece, and as a record of each kind.
-use mathlib.Core.Path.{_≡_, refl, ap, _∙_}
+use mathlib.Core.Path.{_≡_, refl, sym, ap, _∙_}
 use Prim.Native.Nat.{ℕ, suc, _+_, _*_, _-_, _%_, _^_, _≤_, _<_}
 use native.Mathlib.Nat.{zero-add}
 use native.Mathlib.Omega.{arith}
@@ -21,6 +21,15 @@ use Rattle.emit.proofs.ByteLaws.{digits-append, sum-append}
 pub line-text : (k : Kind) (a : ℕ) (ds : List ℕ) → lineOf (typeOf k) (width k) a ds ≡ recordText k a ds ++ (10 ∷ [])
 unfolding lineOf lineWith covered recordText summed
 line-text k a ds = rw (length-inBytes (width k) a)
+
+length-with : (kind : ℕ) (address ds : List ℕ) → length (lineWith kind address ds) ≡ 7 + 2 * length address + 2 * length ds
+unfolding lineWith covered
+length-with kind address ds = simp (length-append, length-pairs) (omega arith)
+
+-- 7 characters, and two for each byte of address and data
+pub length-line : (kind w a : ℕ) (ds : List ℕ) → length (lineOf kind w a ds) ≡ 7 + 2 * w + 2 * length ds
+unfolding lineOf
+length-line kind w a ds = length-with kind (inBytes w a) ds ∙ rw (length-inBytes w a)
 
 -- sums modulo 256 add up to the checksum: the return of `check_byte`
 pub checksum-parts : (count : ℕ) (address ds : List ℕ)
@@ -59,9 +68,6 @@ module _ (o : List ℕ) (kind : ℕ) (address ds : List ℕ) (h : length o ≡ 7
   length-end : length before-end ≡ 4 + 2 * length address + 2 * length ds + 2
   length-end = length-append before-check (digitsOf (check ∷ [])) ∙ omega (arith, length-check)
 
-  length-line : length (before-end ++ (10 ∷ [])) ≡ length o
-  length-line = length-append before-end (10 ∷ []) ∙ omega (arith, length-end, h)
-
   -- all pieces together
   pieces : before-end ++ (10 ∷ []) ≡ lineWith kind address ds
   unfolding lineWith covered
@@ -85,6 +91,6 @@ module _ (o : List ℕ) (kind : ℕ) (address ds : List ℕ) (h : length o ≡ 7
         over-next o 0 before-data (digitsOf ds) (4 + 2 * length address) (omega (arith, length-data)) (omega (arith, h)),
         over-next o 0 before-check (digitsOf (check ∷ [])) (4 + 2 * length address + 2 * length ds) (omega (arith, length-check)) (omega (arith, h)),
         over-store o 0 before-end 10 (4 + 2 * length address + 2 * length ds + 2) (omega (arith, length-end)) (omega (arith, h)),
-        over-all o (before-end ++ (10 ∷ [])) length-line,
+        over-all o (before-end ++ (10 ∷ [])) (ap length pieces ∙ length-with kind address ds ∙ sym h),
       )
       pieces

@@ -1,12 +1,13 @@
 -- Pieces that are laid over an output, one behind the other.
 use mathlib.Core.Path.{_≡_, refl, sym, ap, _∙_}
 use Prim.Native.Nat.{ℕ, suc, _+_, _-_, _≤_, _<_}
-use native.Mathlib.Nat.{add-assoc, add-zero, zero-add}
+use native.Mathlib.Nat.{add-assoc, add-zero, add-sub-cancel-left}
 use native.Mathlib.Numerals.{add-one}
 use native.Mathlib.Omega.{arith}
 use mathlib.Core.List.{List, [], _∷_, _++_, append-assoc, append-nil}
 use lib.ListN.{length, set, take, drop, length-append, length-take, length-drop, take-append-drop, drop-of-length-le}
 use lib.Seq.{length-take-le, take-at, drop-append-add, drop-drop, set-split}
+use borrow.Rule.Slice.PartMut.{putMid}
 use Rattle.window.specs.Images.{over}
 
 pub over-length : (o : List ℕ) (at : ℕ) (xs : List ℕ) → at + length xs ≤ length o → length (over o at xs) ≡ length o
@@ -65,3 +66,8 @@ unfolding over
 over-all o xs e =
     let l : length o ≤ 0 + length xs = omega arith in
     rw (drop-of-length-le o l, append-nil)
+
+-- a part of the output that was lent and came back as a piece
+pub over-lent : (o : List ℕ) (at n : ℕ) (ys : List ℕ) → length ys ≡ n → putMid at (at + n - at) o ys ≡ over o at ys
+unfolding over
+over-lent o at n ys e = rw (add-sub-cancel-left at n, drop-drop n at o, e)

@@ -108,3 +108,22 @@ pub fn put_record(out: &mut [u8], kind: u8, width: usize, address: u32, bytes: &
     let from = 4 - width;
     put_fields(out, kind, &all[from..4], bytes);
 }
+
+// Writes a record and its line end into the output, and returns the place behind it.
+pub fn put_line(
+    out: &mut [u8],
+    at: usize,
+    kind: u8,
+    width: usize,
+    address: u32,
+    bytes: &[u8],
+) -> usize
+    requires { ⌜ (width ≤ 4) × (width + length (now bytes) ≤ 254) ⌝ }
+    requires { ⌜ at + (7 + 2 * width + 2 * length (now bytes)) ≤ length (now out) ⌝ }
+    ensures { λ r. ⌜ r ≡ at + (7 + 2 * width + 2 * length (now (bytes .entry))) ⌝ }
+    ensures { λ _. ⌜ now (out .exit) ≡ over (now (out .entry)) at (lineOf kind width address (now (bytes .entry))) ⌝ }
+{
+    let end = at + (7 + 2 * width + 2 * bytes.len());
+    put_record(&mut out[at..end], kind, width, address, bytes);
+    end
+}
