@@ -4,7 +4,7 @@ use Prim.Native.Nat.{ℕ, _+_, _*_, _^_, _≤_, _<_}
 use native.Mathlib.Nat.{mul-le-mul-left, mul-le-mul-right, le-trans, suc-mul}
 use native.Mathlib.Omega.{arith}
 use mathlib.Core.Bool.{Bool, cond}
-use mathlib.Core.List.{List, [], _∷_, _++_, append-assoc, append-nil}
+use mathlib.Core.List.{List, [], _∷_, _++_}
 use lib.Dec.{leb}
 use lib.ListN.{length, length-append}
 use Rattle.hex.proofs.TestLaws.{by-test}
@@ -13,11 +13,11 @@ use Rattle.window.specs.Plans.{Entry}
 use Rattle.window.proofs.CellLaws.{total, total-flat}
 use Rattle.srec.specs.Kinds.{Kind, typeOf, width}
 use Rattle.srec.specs.Kinds.Kind.{S0, Data, S5, End}
-use Rattle.srec.specs.Writing.{recordText}
 use Rattle.srec.specs.Canonical.{runs, largest, widthFor, line, dataLines, countLine, canonical}
 use Rattle.srec.proofs.RunLaws.{flat-runs}
 use Rattle.emit.specs.Records.{lineOf}
-use Rattle.emit.proofs.LineLaws.{line-text, length-line}
+use Rattle.emit.proofs.LineLaws.{length-line}
+use Rattle.write.proofs.PieceLaws.{line-before}
 use Rattle.write.specs.Sizes.{lengthFor}
 
 -- the records of a text of at most 2 ^ 32 cells take less than 2 ^ 36 characters
@@ -25,26 +25,6 @@ pub records-fit : (records width : ℕ) → records ≤ 2 ^ 32 → width ≤ 4 �
 records-fit records width h l =
     let e : 7 + 2 * width ≤ 15 = omega arith in
     le-trans (mul-le-mul-left records e) (mul-le-mul-right 15 h)
-
--- ---- the text as its lines, one behind the other
-
--- a line is put before the rest
-pub line-before : (k : Kind) (a : ℕ) (ds rest : List ℕ) → line k a ds rest ≡ lineOf (typeOf k) (width k) a ds ++ rest
-unfolding line
-line-before k a ds rest = sym (ap (λ (l : List ℕ). l ++ rest) (line-text k a ds) ∙ append-assoc (recordText k a ds) (10 ∷ []) rest)
-
-pub data-before : (w : ℕ) (rs : List Run) (rest : List ℕ) → dataLines w rs rest ≡ dataLines w rs [] ++ rest
-data-before w [] rest = refl
-data-before w (r ∷ rs) rest =
-    let own = lineOf (47 + w) w (r .addr) (r .bytes) in
-    line-before (Data w) (r .addr) (r .bytes) (dataLines w rs rest) ∙ ap (λ (l : List ℕ). own ++ l) (data-before w rs rest)
-    ∙ sym (append-assoc own (dataLines w rs []) rest) ∙ ap (λ (l : List ℕ). l ++ rest) (sym (line-before (Data w) (r .addr) (r .bytes) (dataLines w rs [])))
-
-pub count-before : (n : ℕ) (rest : List ℕ) → countLine n rest ≡ countLine n [] ++ rest
-unfolding countLine
-count-before n rest =
-    by-test (leb n 65535) (λ e. rw e (line-before S5 n [] rest ∙ ap (λ (l : List ℕ). l ++ rest) (sym (append-nil (lineOf 53 2 n [])) ∙ sym (line-before S5 n [] []))))
-    (λ e. rw e)
 
 -- ---- the length of each
 

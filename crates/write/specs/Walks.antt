@@ -4,10 +4,16 @@ use mathlib.Core.Bool.{cond}
 use mathlib.Core.List.{List, [], _∷_}
 use lib.Dec.{eqb}
 use Rattle.window.specs.Windows.{Window}
+use Rattle.window.specs.Images.{image}
+use Rattle.window.specs.Cells.{Cell, cells}
 
 -- the window of a base, a memory and marks
 abbrev pub windowOf : ℕ → List ℕ → List ℕ → Window
 windowOf base memory marks = record { base = base; memory = memory; marks = marks }
+
+-- the addressed cells that a window shows
+abbrev pub shown : Window → List Cell
+shown W = cells (W .base) (image (W .memory) (W .marks))
 
 -- how many cells without a mark come first
 abbrev pub gap : List ℕ → ℕ
