@@ -14,10 +14,12 @@ use Rattle.hex.proofs.NumberLaws.{length-inBytes}
 use Rattle.window.specs.Images.{over}
 use Rattle.emit.proofs.OverLaws.{over-more}
 
+-- digits of bytes that stand side by side
 pub digits-append : (xs ys : List ℕ) → digitsOf (xs ++ ys) ≡ digitsOf xs ++ digitsOf ys
 digits-append [] ys = refl
 digits-append (x ∷ xs) ys = rw (digits-append xs ys)
 
+-- their sum
 pub sum-append : (xs ys : List ℕ) → sum (xs ++ ys) ≡ sum xs + sum ys
 sum-append [] ys = omega arith
 sum-append (x ∷ xs) ys = omega (arith, sum-append xs ys)

@@ -1,9 +1,8 @@
 -- A record's line: written piece by piece, and as a record of each kind.
 use mathlib.Core.Path.{_≡_, refl, sym, ap, _∙_}
-use Prim.Native.Nat.{ℕ, suc, _+_, _*_, _-_, _%_, _^_, _≤_, _<_}
-use native.Mathlib.Nat.{zero-add}
+use Prim.Native.Nat.{ℕ, _+_, _*_, _-_, _%_, _^_, _≤_}
 use native.Mathlib.Omega.{arith}
-use mathlib.Core.List.{List, [], _∷_, _++_, append-assoc}
+use mathlib.Core.List.{List, [], _∷_, _++_}
 use lib.ListN.{length, set, length-append}
 use Rattle.hex.specs.Digits.{digitsOf}
 use Rattle.hex.specs.Numbers.{inBytes, sum}
@@ -22,6 +21,7 @@ pub line-text : (k : Kind) (a : ℕ) (ds : List ℕ) → lineOf (typeOf k) (widt
 unfolding lineOf lineWith covered recordText summed
 line-text k a ds = rw (length-inBytes (width k) a)
 
+-- the length, for the address bytes
 length-with : (kind : ℕ) (address ds : List ℕ) → length (lineWith kind address ds) ≡ 7 + 2 * length address + 2 * length ds
 unfolding lineWith covered
 length-with kind address ds = simp (length-append, length-pairs) (omega arith)

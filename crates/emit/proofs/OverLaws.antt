@@ -1,6 +1,6 @@
 -- Pieces that are laid over an output, one behind the other.
-use mathlib.Core.Path.{_≡_, refl, sym, ap, _∙_}
-use Prim.Native.Nat.{ℕ, suc, _+_, _-_, _≤_, _<_}
+use mathlib.Core.Path.{_≡_, refl, ap, _∙_}
+use Prim.Native.Nat.{ℕ, _+_, _-_, _≤_, _<_}
 use native.Mathlib.Nat.{add-assoc, add-zero, add-sub-cancel-left}
 use native.Mathlib.Numerals.{add-one}
 use native.Mathlib.Omega.{arith}
@@ -10,6 +10,7 @@ use lib.Seq.{length-take-le, take-at, drop-append-add, drop-drop, set-split}
 use borrow.Rule.Slice.PartMut.{putMid}
 use Rattle.window.specs.Images.{over}
 
+-- a piece that fits leaves an output its length
 pub over-length : (o : List ℕ) (at : ℕ) (xs : List ℕ) → at + length xs ≤ length o → length (over o at xs) ≡ length o
 unfolding over
 over-length o at xs h = simp (length-append, length-take, length-drop) (omega arith)

@@ -11,7 +11,7 @@ ghost use Rattle.window.specs.Images.{over};
 ghost use Rattle.emit.specs.Records.{lineWith, lineOf};
 
 // The digit that is written for a number below 16.
-pub fn digit_for(n: u8) -> u8
+fn digit_for(n: u8) -> u8
     requires { ⌜ n < 16 ⌝ }
     ensures { λ r. ⌜ r ≡ digit n ⌝ }
 {
@@ -19,7 +19,7 @@ pub fn digit_for(n: u8) -> u8
 }
 
 // Writes a byte as two digits.
-pub fn put_pair(out: &mut [u8], at: usize, byte: u8)
+fn put_pair(out: &mut [u8], at: usize, byte: u8)
     requires { ⌜ at + 2 ≤ length (now out) ⌝ }
     ensures { λ _. ⌜ now (out .exit) ≡ over (now (out .entry)) at (digitsOf (byte ∷ [])) ⌝ }
 {
@@ -29,7 +29,7 @@ pub fn put_pair(out: &mut [u8], at: usize, byte: u8)
 }
 
 // Writes bytes as pairs of digits.
-pub fn put_pairs(out: &mut [u8], at: usize, bytes: &[u8])
+fn put_pairs(out: &mut [u8], at: usize, bytes: &[u8])
     requires { ⌜ at + 2 * length (now bytes) ≤ length (now out) ⌝ }
     ensures { λ _. ⌜ now (out .exit) ≡ over (now (out .entry)) at (digitsOf (now (bytes .entry))) ⌝ }
 {
@@ -41,7 +41,7 @@ pub fn put_pairs(out: &mut [u8], at: usize, bytes: &[u8])
 }
 
 // The sum of bytes, modulo 256.
-pub fn sum_of(bytes: &[u8]) -> u8
+fn sum_of(bytes: &[u8]) -> u8
     ensures { λ r. ⌜ r ≡ sum (now (bytes .entry)) % 256 ⌝ }
 {
     let mut s: u8 = 0;
@@ -54,7 +54,7 @@ pub fn sum_of(bytes: &[u8]) -> u8
 }
 
 // The checksum of a count, address bytes and data bytes.
-pub fn check_byte(count: u8, address: &[u8], bytes: &[u8]) -> u8
+fn check_byte(count: u8, address: &[u8], bytes: &[u8]) -> u8
     ensures { λ r. ⌜ r ≡ checksum (count ∷ now (address .entry) ++ now (bytes .entry)) ⌝ }
 {
     let head = wrapping_add_u8(count, sum_of(address));
@@ -62,7 +62,7 @@ pub fn check_byte(count: u8, address: &[u8], bytes: &[u8]) -> u8
 }
 
 // Writes a record with these address bytes, and its line end, into a part of the output that is just as long.
-pub fn put_fields(out: &mut [u8], kind: u8, address: &[u8], bytes: &[u8])
+fn put_fields(out: &mut [u8], kind: u8, address: &[u8], bytes: &[u8])
     requires { ⌜ length (now address) + length (now bytes) ≤ 254 ⌝ }
     requires { ⌜ length (now out) ≡ 7 + 2 * length (now address) + 2 * length (now bytes) ⌝ }
     ensures { λ _. ⌜ now (out .exit) ≡ lineWith kind (now (address .entry)) (now (bytes .entry)) ⌝ }
@@ -84,7 +84,7 @@ pub fn put_fields(out: &mut [u8], kind: u8, address: &[u8], bytes: &[u8])
 }
 
 // The four bytes of an address, high byte first.
-pub fn address_bytes(address: u32) -> [u8; 4]
+fn address_bytes(address: u32) -> [u8; 4]
     ensures { λ r. ⌜ r ≡ inBytes 4 address ⌝ }
 {
     let second = address / 256;

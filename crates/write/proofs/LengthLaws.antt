@@ -1,10 +1,10 @@
 -- The length of the canonical text.
-use mathlib.Core.Path.{_≡_, refl, sym, ap, _∙_}
-use Prim.Native.Nat.{ℕ, _+_, _*_, _^_, _≤_, _<_}
+use mathlib.Core.Path.{_≡_, ap, _∙_}
+use Prim.Native.Nat.{ℕ, _+_, _*_, _^_, _≤_}
 use native.Mathlib.Nat.{mul-le-mul-left, mul-le-mul-right, le-trans, suc-mul}
 use native.Mathlib.Omega.{arith}
-use mathlib.Core.Bool.{Bool, cond}
-use mathlib.Core.List.{List, [], _∷_, _++_}
+use mathlib.Core.Bool.{cond}
+use mathlib.Core.List.{List, [], _∷_}
 use lib.Dec.{leb}
 use lib.ListN.{length, length-append}
 use Rattle.hex.proofs.TestLaws.{by-test}
@@ -28,17 +28,20 @@ records-fit records width h l =
 
 -- ---- the length of each
 
+-- a line before the rest
 length-before : (k : Kind) (a : ℕ) (ds rest : List ℕ) → length (line k a ds rest) ≡ 7 + 2 * width k + 2 * length ds + length rest
 length-before k a ds rest =
     ap length (line-before k a ds rest) ∙ length-append (lineOf (typeOf k) (width k) a ds) rest
     ∙ ap (λ (n : ℕ). n + length rest) (length-line (typeOf k) (width k) a ds)
 
+-- the data records before the rest
 length-data : (w : ℕ) (rs : List Run) (rest : List ℕ) → length (dataLines w rs rest) ≡ length rs * (7 + 2 * w) + 2 * total rs + length rest
 length-data w [] rest = omega arith
 length-data w (r ∷ rs) rest =
     length-before (Data w) (r .addr) (r .bytes) (dataLines w rs rest)
     ∙ omega (arith, length-data w rs rest, suc-mul (length rs) (7 + 2 * w))
 
+-- S5, if it is written, before the rest
 length-count : (n : ℕ) (rest : List ℕ) → length (countLine n rest) ≡ cond (leb n 65535) 11 0 + length rest
 unfolding countLine
 length-count n rest = by-test (leb n 65535) (λ e. rw e (length-before S5 n [] rest)) (λ e. rw e (omega arith))

@@ -1,13 +1,12 @@
 -- What `measure` has counted so far, and the rest, make up the whole.
-use mathlib.Core.Path.{_≡_, refl, sym, ap, _∙_}
+use mathlib.Core.Path.{_≡_, sym, ap, _∙_}
 use Prim.Native.Nat.{ℕ, suc, _+_, _-_, _≤_, _<_, max}
 use native.Mathlib.Nat.{add-zero, zero-add}
 use native.Mathlib.Omega.{arith}
 use mathlib.Core.List.{List, [], _∷_, _++_, map}
 use mathlib.Core.Option.{some}
 use lib.ListN.{length, take, drop, length-append}
-use Rattle.window.specs.Images.{image}
-use Rattle.window.specs.Cells.{Cell, Run, cells}
+use Rattle.window.specs.Cells.{Cell, cells}
 use Rattle.window.proofs.CellLaws.{cellsOf, flat, length-cells}
 use Rattle.srec.specs.Canonical.{runs, largest}
 use Rattle.srec.proofs.RunLaws.{flat-runs}
@@ -18,10 +17,12 @@ use Rattle.write.proofs.RunWalkLaws.{from, NextAt, from-next, from-zero
 
 -- ---- the largest address
 
+-- the entry may be a larger address
 largest-more : (e x : ℕ) (cs : List Cell) → largest (max e x) cs ≡ max x (largest e cs)
 largest-more e x [] = omega arith
 largest-more e x (c ∷ cs) = omega (arith, largest-more e x cs)
 
+-- cells of one run before the others
 largest-run : (e a b : ℕ) (bs : List ℕ) (cs : List Cell) → largest e (cells a (map some (b ∷ bs)) ++ cs) ≡ max (a + length bs) (largest e cs)
 largest-run e a b [] cs = omega arith
 largest-run e a b (c ∷ bs) cs = omega (arith, largest-run e (suc a) c bs cs)

@@ -3,7 +3,6 @@ use mathlib.Core.Path.{_≡_, refl, sym, ap, _∙_, subst}
 use Prim.Native.Nat.{ℕ, _+_, _*_, _-_, _≤_, _<_}
 use native.Mathlib.Nat.{add-zero}
 use native.Mathlib.Omega.{arith}
-use mathlib.Core.Bool.{Bool, cond}
 use mathlib.Core.List.{List, [], _∷_, _++_, append-assoc, append-nil}
 use lib.Dec.{leb}
 use lib.ListN.{length, take, drop, length-append}
@@ -32,6 +31,7 @@ pub line-before : (k : Kind) (a : ℕ) (ds rest : List ℕ) → line k a ds rest
 unfolding line
 line-before k a ds rest = sym (ap (λ (l : List ℕ). l ++ rest) (line-text k a ds) ∙ append-assoc (recordText k a ds) (10 ∷ []) rest)
 
+-- the data records are put before the rest
 pub data-before : (w : ℕ) (rs : List Run) (rest : List ℕ) → dataLines w rs rest ≡ dataLines w rs [] ++ rest
 data-before w [] rest = refl
 data-before w (r ∷ rs) rest =
@@ -39,6 +39,7 @@ data-before w (r ∷ rs) rest =
     line-before (Data w) (r .addr) (r .bytes) (dataLines w rs rest) ∙ ap (λ (l : List ℕ). own ++ l) (data-before w rs rest)
     ∙ sym (append-assoc own (dataLines w rs []) rest) ∙ ap (λ (l : List ℕ). l ++ rest) (sym (line-before (Data w) (r .addr) (r .bytes) (dataLines w rs [])))
 
+-- and so is S5, if it is written
 pub count-before : (n : ℕ) (rest : List ℕ) → countLine n rest ≡ countLine n [] ++ rest
 unfolding countLine
 count-before n rest =

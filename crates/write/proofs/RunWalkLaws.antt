@@ -1,24 +1,21 @@
 -- A window's cells from an index on: what a gap skips, and the run that stands at a marked cell, before the runs behind it.
-use mathlib.Core.Path.{_≡_, refl, sym, ap, ap₂, _∙_, subst}
-use Prim.Native.Nat.{ℕ, zero, suc, _+_, _-_, _%_, _≤_, _<_, max}
+use mathlib.Core.Path.{_≡_, refl, sym, ap, ap₂, _∙_}
+use Prim.Native.Nat.{ℕ, zero, suc, _+_, _-_, _%_, _≤_, _<_}
 use native.Mathlib.Nat.{add-suc, suc-add, add-zero, add-assoc}
 use native.Mathlib.Numerals.{add-one}
 use native.Mathlib.Omega.{arith}
-use mathlib.Core.Bool.{Bool, cond, not, _&&_}
-use mathlib.Core.List.{List, [], _∷_, _++_, map}
-use mathlib.Core.Option.{none, some}
+use mathlib.Core.List.{List, [], _∷_}
 use lib.Dec.{eqb}
 use lib.ListN.{length, getD, take, drop, length-drop, drop-of-length-le}
 use lib.Seq.{drop-cons, drop-drop, drop-nil, length-take-le}
 use borrow.Author.Tests.{eq-eqb, ne-eqb, eqb-true, eqb-false}
 use Rattle.hex.proofs.TestLaws.{by-test}
-use Rattle.window.specs.Images.{Image, image}
+use Rattle.window.specs.Images.{image}
 use Rattle.window.specs.Cells.{Cell, Run, cells}
-use Rattle.window.proofs.CellLaws.{cellsOf, flat}
 use Rattle.window.proofs.OrderLaws.{rising-cells}
 use Rattle.window.proofs.RoomLaws.{RisingRuns}
-use Rattle.srec.specs.Canonical.{joins, before, runs, largest}
-use Rattle.srec.proofs.RunLaws.{flat-runs, rising-runs}
+use Rattle.srec.specs.Canonical.{joins, before, runs}
+use Rattle.srec.proofs.RunLaws.{rising-runs}
 use Rattle.write.specs.Walks.{gap, runOn}
 
 -- the cells from index i on
@@ -27,6 +24,7 @@ from base memory marks i = cells (base + i) (image (drop i memory) (drop i marks
 
 -- ---- gaps
 
+-- the gap that comes first has no cells
 skipped : (a : ℕ) (memory marks : List ℕ) → cells a (image memory marks) ≡ cells (a + gap marks) (image (drop (gap marks) memory) (drop (gap marks) marks))
 skipped a [] marks = rw (drop-nil (gap marks))
 skipped a (b ∷ memory) [] = refl
@@ -39,11 +37,13 @@ from-add : (base : ℕ) (memory marks : List ℕ) (i k : ℕ)
 unfolding from
 from-add base memory marks i k = rw (drop-drop k i memory, drop-drop k i marks, add-assoc base i k)
 
+-- behind it comes no other gap
 gap-behind : (marks : List ℕ) → gap (drop (gap marks) marks) ≡ 0
 gap-behind [] = refl
 gap-behind (zero ∷ marks) = gap-behind marks
 gap-behind (suc m ∷ marks) = refl
 
+-- it is no longer than the marks
 gap-inside : (ms : List ℕ) → gap ms ≤ length ms
 gap-inside [] = omega arith
 gap-inside (zero ∷ ms) = omega (arith, gap-inside ms)
@@ -91,6 +91,7 @@ joined : (a b c : ℕ) (bs : List ℕ) (rs : List Run) → (suc a % 16 ≡ 0 →
 unfolding joins
 joined a b c bs rs h = rw (eq-eqb (suc a) (suc a) refl, ne-eqb (suc a % 16) 0 h)
 
+-- the same where the next address is a multiple of 16: two runs
 apart : (a b c : ℕ) (bs : List ℕ) (rs : List Run) → suc a % 16 ≡ 0
     → before (record { addr = a; byte = b }) (record { addr = suc a; bytes = c ∷ bs } ∷ rs)
     ≡ record { addr = a; bytes = b ∷ [] } ∷ (record { addr = suc a; bytes = c ∷ bs } ∷ rs)
@@ -119,6 +120,7 @@ cut a b (x ∷ memory) (suc m ∷ marks) e =
 
 -- ---- the run at an index
 
+-- a run stays in its row of sixteen
 run-short : (a : ℕ) (marks : List ℕ) → a % 16 + suc (runOn (suc a) marks) ≤ 16
 run-short a [] = omega arith
 run-short a (zero ∷ marks) = omega arith
@@ -126,6 +128,7 @@ run-short a (suc m ∷ marks) =
     by-test (eqb (suc a % 16) 0) (λ t. rw t (omega arith))
     (λ t. rw t (omega (arith, run-short (suc a) marks, eqb-false (suc a % 16) 0 t)))
 
+-- and is no longer than the marks
 run-inside : (a : ℕ) (marks : List ℕ) → runOn a marks ≤ length marks
 run-inside a [] = omega arith
 run-inside a (zero ∷ marks) = omega arith
@@ -146,9 +149,11 @@ run-bounds base marks i j h e =
 abbrev pub runAt : ℕ → List ℕ → ℕ → ℕ → Run
 runAt base memory i j = record { addr = base + i; bytes = take (j - i) (drop i memory) }
 
+-- how many cells the run from index i to j has
 pub length-run : (memory : List ℕ) (i j : ℕ) → j ≤ length memory → length (take (j - i) (drop i memory)) ≡ j - i
 length-run memory i j h = length-take-le (j - i) (drop i memory) (omega (arith, length-drop i memory))
 
+-- the runs of cells the first of which is marked
 first-run : (a b m : ℕ) (memory marks : List ℕ) → length memory ≡ length marks → gap (m ∷ marks) ≡ 0
     → runs (cells a (image (b ∷ memory) (m ∷ marks)))
     ≡ record { addr = a; bytes = b ∷ take (runOn (suc a) marks) memory }

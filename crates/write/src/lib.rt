@@ -16,14 +16,14 @@ ghost use Rattle.write.specs.Walks.{windowOf, shown, gap, runOn};
 ghost use Rattle.write.specs.Sizes.{sizeOf, dataText, countText, lengthFor};
 
 // How many data records and cells a text has, and its largest address, entry included.
-pub struct Size {
-    pub records: usize,
-    pub cells: usize,
-    pub largest: u32,
+struct Size {
+    records: usize,
+    cells: usize,
+    largest: u32,
 }
 
 // The index of the first mark that is neither 0 nor 1, or the number of marks.
-pub fn first_bad_mark(marks: &[u8]) -> usize
+fn first_bad_mark(marks: &[u8]) -> usize
     ensures { λ r. ⌜ r ≡ firstBadMark (now (marks .entry)) ⌝ }
 {
     let mut i = 0;
@@ -37,7 +37,7 @@ pub fn first_bad_mark(marks: &[u8]) -> usize
 }
 
 // The index of the next marked cell from `at` on, or the number of cells.
-pub fn skip(marks: &[u8], at: usize) -> usize
+fn skip(marks: &[u8], at: usize) -> usize
     requires { ⌜ at ≤ length (now marks) ⌝ }
     ensures { λ r. ⌜ r ≡ at + gap (drop at (now (marks .entry))) ⌝ }
 {
@@ -52,7 +52,7 @@ pub fn skip(marks: &[u8], at: usize) -> usize
 }
 
 // The index behind the run that starts at `at`. Rows of sixteen are cut by address, not by index.
-pub fn run_end(base: u32, marks: &[u8], at: usize) -> usize
+fn run_end(base: u32, marks: &[u8], at: usize) -> usize
     requires { ⌜ (at < length (now marks)) × (base + length (now marks) ≤ 2 ^ 32) ⌝ }
     ensures { λ r. ⌜ r ≡ at + 1 + runOn (base + (at + 1)) (drop (at + 1) (now (marks .entry))) ⌝ }
 {
@@ -71,14 +71,14 @@ pub fn run_end(base: u32, marks: &[u8], at: usize) -> usize
 }
 
 // The larger of two addresses.
-pub fn larger(a: u32, b: u32) -> u32
+fn larger(a: u32, b: u32) -> u32
     ensures { λ r. ⌜ r ≡ max a b ⌝ }
 {
     if a < b { b } else { a }
 }
 
 // The size of the text of a window with these marks, whatever its memory holds.
-pub fn measure(base: u32, marks: &[u8], entry: u32) -> Size
+fn measure(base: u32, marks: &[u8], entry: u32) -> Size
     requires { ⌜ base + length (now marks) ≤ 2 ^ 32 ⌝ }
     ensures { λ r. ⌜ ((memory : List ℕ) → length memory ≡ length (now (marks .entry)) → r ≡ sizeOf (shown (windowOf base memory (now (marks .entry)))) entry) ⌝ }
     ensures { λ r. ⌜ (r .records ≤ length (now (marks .entry))) × (r .cells ≤ length (now (marks .entry))) ⌝ }
@@ -102,7 +102,7 @@ pub fn measure(base: u32, marks: &[u8], entry: u32) -> Size
 }
 
 // The address bytes that the largest address asks for, from its leading zeros.
-pub fn width_for(largest: u32) -> usize
+fn width_for(largest: u32) -> usize
     ensures { λ r. ⌜ r ≡ widthFor largest ⌝ }
 {
     let bits = 32 - u32::leading_zeros(largest);
@@ -116,7 +116,7 @@ pub fn width_for(largest: u32) -> usize
 }
 
 // The length of the canonical text.
-pub fn text_length(size: Size, header: usize, width: usize) -> usize
+fn text_length(size: Size, header: usize, width: usize) -> usize
     requires { ⌜ (size .records ≤ 2 ^ 32) × (size .cells ≤ 2 ^ 32) × (header ≤ 252) × (width ≤ 4) ⌝ }
     ensures { λ r. ⌜ r ≡ lengthFor (size .records) (size .cells) header width ⌝ }
 {
@@ -130,7 +130,7 @@ pub fn text_length(size: Size, header: usize, width: usize) -> usize
 }
 
 // Writes the data records, one for each run, and returns the place behind them.
-pub fn put_cells(
+fn put_cells(
     out: &mut [u8],
     start: usize,
     base: u32,
@@ -154,21 +154,21 @@ pub fn put_cells(
     at
 }
 
-// Writes the number of data records, if S5 can hold it, and returns the place behind it.
-pub fn put_count(out: &mut [u8], at: usize, records: usize) -> usize
+// Writes S5 with the number of data records, if two bytes hold it, and returns the place behind it.
+fn put_count(out: &mut [u8], at: usize, records: usize) -> usize
     requires { ⌜ at + length (countText records) ≤ length (now out) ⌝ }
     ensures { λ r. ⌜ r ≡ at + length (countText records) ⌝ }
     ensures { λ _. ⌜ now (out .exit) ≡ over (now (out .entry)) at (countText records) ⌝ }
 {
-    let none = [0u8; 0];
-    if records <= 65535 {
-        return put_line(out, at, 53, 2, records as u32, &none);
+    if 65535 < records {
+        return at;
     }
-    at
+    let none = [0u8; 0];
+    put_line(out, at, 53, 2, records as u32, &none)
 }
 
-// Writes the canonical text of a window, of this size and width, at the start of the output.
-pub fn put_text(
+// Writes the canonical text of a window, whose number of data records and width are known, at the start of the output.
+fn put_text(
     out: &mut [u8],
     base: u32,
     memory: &[u8],

@@ -1,6 +1,6 @@
 -- `write::first_bad_mark` meets its contract: what it looks for lies as far ahead as the definition says.
 use mathlib.Core.Path.{_≡_, refl, sym, _∙_}
-use Prim.Native.Nat.{_+_, _-_, _≤_, suc}
+use Prim.Native.Nat.{_+_, _-_, _≤_}
 use native.Mathlib.Omega.{arith}
 use lib.ListN.{length, drop}
 use Rattle.window.specs.Windows.{firstBadMark}

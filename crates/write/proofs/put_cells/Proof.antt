@@ -1,9 +1,8 @@
 -- `write::put_cells` meets its contract: what is written and what is left make up the data records.
-use mathlib.Core.Path.{_≡_, _∙_}
-use Prim.Native.Nat.{_+_, _-_, _*_, _≤_, _<_}
+use mathlib.Core.Path.{_≡_}
+use Prim.Native.Nat.{_+_, _-_, _≤_, _<_}
 use native.Mathlib.Omega.{arith}
-use lib.ListN.{length, take, drop}
-use borrow.Author.Needs.{needs}
+use lib.ListN.{length, drop}
 use Rattle.write.specs.Walks.{windowOf, shown, gap}
 use Rattle.write.specs.Sizes.{dataText}
 use Rattle.write.proofs.RunWalkLaws.{from, next-bounds, run-bounds, length-run}

@@ -1,5 +1,4 @@
 -- `write::put_text` meets its contract: the pieces that it writes are the canonical text.
-use mathlib.Core.Path.{_≡_}
 use Prim.Native.Nat.{ℕ, _+_, _-_, _≤_}
 use native.Mathlib.Omega.{arith}
 use mathlib.Core.List.{List, [], _++_}
