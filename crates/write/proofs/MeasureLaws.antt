@@ -13,7 +13,7 @@ use Rattle.srec.proofs.RunLaws.{flat-runs}
 use Rattle.write.specs.declared.Size.{Size}
 use Rattle.write.specs.Walks.{windowOf, shown, gap}
 use Rattle.write.specs.Sizes.{sizeOf}
-use Rattle.write.proofs.RunWalkLaws.{from, NextAt, from-next, from-zero, from-end, EndsAt, run-bounds, runAt, length-run, runs-at}
+use Rattle.write.proofs.RunWalkLaws.{cellsFrom, NextAt, from-next, from-zero, from-end, EndsAt, run-bounds, runAt, length-run, runs-at}
 
 -- ---- the largest address
 
@@ -43,25 +43,25 @@ pub record Measured (whole rest : List Cell) (entry records cells top : ℕ) : T
 
 -- before the first run nothing is counted
 pub measured-start : (base : ℕ) (memory marks : List ℕ) (entry i : ℕ) → NextAt marks 0 i
-    → Measured (shown (windowOf base memory marks)) (from base memory marks i) entry 0 0 entry
+    → Measured (shown (windowOf base memory marks)) (cellsFrom base memory marks i) entry 0 0 entry
 measured-start base memory marks entry i q =
-    let e : from base memory marks i ≡ shown (windowOf base memory marks)
+    let e : cellsFrom base memory marks i ≡ shown (windowOf base memory marks)
     = from-next base memory marks 0 i q ∙ from-zero base memory marks in
     record { all-records = rw e (zero-add _); all-cells = rw e (zero-add _); the-largest = rw e }
 
 module _ (base : ℕ) (memory marks : List ℕ) (i j : ℕ) (e : length memory ≡ length marks) (h : i < length marks) (g : gap (drop i marks) ≡ 0) (q : EndsAt base marks i j) where
   -- the cells from a marked cell on: those of its run, and those behind it
-  cells-at : from base memory marks i ≡ cellsOf (runAt base memory i j) ++ from base memory marks j
+  cells-at : cellsFrom base memory marks i ≡ cellsOf (runAt base memory i j) ++ cellsFrom base memory marks j
   cells-at =
-      sym (flat-runs (from base memory marks i)) ∙ ap flat (runs-at base memory marks i j e h g q)
-      ∙ ap (λ (cs : List Cell). cellsOf (runAt base memory i j) ++ cs) (flat-runs (from base memory marks j))
+      sym (flat-runs (cellsFrom base memory marks i)) ∙ ap flat (runs-at base memory marks i j e h g q)
+      ∙ ap (λ (cs : List Cell). cellsOf (runAt base memory i j) ++ cs) (flat-runs (cellsFrom base memory marks j))
 
   -- a run more: a turn of `measure`
   pub measured-more : (whole : List Cell) (entry records count top n : ℕ) → NextAt marks j n
-      → Measured whole (from base memory marks i) entry records count top
-      → Measured whole (from base memory marks n) entry (records + 1) (count + (j - i)) (max top (base + (j - 1)))
+      → Measured whole (cellsFrom base memory marks i) entry records count top
+      → Measured whole (cellsFrom base memory marks n) entry (records + 1) (count + (j - i)) (max top (base + (j - 1)))
   measured-more whole entry records count top n p m =
-      let f : from base memory marks n ≡ from base memory marks j = from-next base memory marks j n p in
+      let f : cellsFrom base memory marks n ≡ cellsFrom base memory marks j = from-next base memory marks j n p in
       let b : (i < j) × (j ≤ length marks) × (j ≤ i + 16) = run-bounds base marks i j h q in
       let own : List ℕ = take (j - i) (drop i memory) in
       let l : length own ≡ j - i = length-run memory i j (omega (arith, b .1)) in
@@ -69,17 +69,17 @@ module _ (base : ℕ) (memory marks : List ℕ) (i j : ℕ) (e : length memory �
       record {
         all-records = rw f (omega (arith, m .all-records, ap length (runs-at base memory marks i j e h g q)));
         all-cells = rw f
-            (omega (arith, b .0, m .all-cells, ap length cells-at ∙ length-append (cells (base + i) (map some own)) (from base memory marks j), length-cells (base + i) own, l));
+            (omega (arith, b .0, m .all-cells, ap length cells-at ∙ length-append (cells (base + i) (map some own)) (cellsFrom base memory marks j), length-cells (base + i) own, l));
         the-largest = rw (f, ← last)
-            (sym (ap (largest top) cells-at ∙ largest-behind top (base + i) (j - i - 1) own (from base memory marks j) (omega (arith, b .0, l))) ∙ m .the-largest);
+            (sym (ap (largest top) cells-at ∙ largest-behind top (base + i) (j - i - 1) own (cellsFrom base memory marks j) (omega (arith, b .0, l))) ∙ m .the-largest);
       }
 
 -- behind the last run all is counted: the return of `measure`
 pub measured-end : (base : ℕ) (memory marks : List ℕ) (entry records count top i : ℕ) → length memory ≡ length marks → length marks ≤ i
-    → Measured (shown (windowOf base memory marks)) (from base memory marks i) entry records count top
+    → Measured (shown (windowOf base memory marks)) (cellsFrom base memory marks i) entry records count top
     → _≡_ {A = Size} (record { records = records; cells = count; largest = top }) (sizeOf (shown (windowOf base memory marks)) entry)
 measured-end base memory marks entry records count top i e h m =
-    let none : from base memory marks i ≡ [] = from-end base memory marks i e h in
+    let none : cellsFrom base memory marks i ≡ [] = from-end base memory marks i e h in
     let r : records ≡ length (runs (shown (windowOf base memory marks))) = sym (add-zero records) ∙ (rw none at (m .all-records)) in
     let c : count ≡ length (shown (windowOf base memory marks)) = sym (add-zero count) ∙ (rw none at (m .all-cells)) in
     let t : top ≡ largest entry (shown (windowOf base memory marks)) = rw none at (m .the-largest) in

@@ -22,7 +22,7 @@ use Rattle.emit.proofs.OverLaws.{over-none, over-more}
 use Rattle.emit.proofs.LineLaws.{line-text, length-line}
 use Rattle.write.specs.Walks.{windowOf, shown, gap}
 use Rattle.write.specs.Sizes.{dataText, countText}
-use Rattle.write.proofs.RunWalkLaws.{from, NextAt, from-next, from-zero, from-end, EndsAt, runs-at}
+use Rattle.write.proofs.RunWalkLaws.{cellsFrom, NextAt, from-next, from-zero, from-end, EndsAt, runs-at}
 
 -- ---- the pieces
 
@@ -117,7 +117,7 @@ module _ (base : ℕ) (memory marks : List ℕ) (w : ℕ) (e : length memory ≡
   all = dataText w (shown (windowOf base memory marks))
 
   abbrev rest : ℕ → List ℕ
-  rest i = dataText w (from base memory marks i)
+  rest i = dataText w (cellsFrom base memory marks i)
 
   -- before the first run
   pub data-start : (i start : ℕ) (o : List ℕ) → NextAt marks 0 i → Pending all (rest i) start start o o

@@ -19,8 +19,8 @@ use Rattle.srec.proofs.RunLaws.{rising-runs}
 use Rattle.write.specs.Walks.{gap, runOn}
 
 -- the cells from index i on
-unfoldable pub from : ℕ → List ℕ → List ℕ → ℕ → List Cell
-from base memory marks i = cells (base + i) (image (drop i memory) (drop i marks))
+unfoldable pub cellsFrom : ℕ → List ℕ → List ℕ → ℕ → List Cell
+cellsFrom base memory marks i = cells (base + i) (image (drop i memory) (drop i marks))
 
 -- ---- gaps
 
@@ -33,8 +33,8 @@ skipped a (b ∷ memory) (suc m ∷ marks) = rw add-zero
 
 -- k cells further on
 from-add : (base : ℕ) (memory marks : List ℕ) (i k : ℕ)
-    → cells (base + i + k) (image (drop k (drop i memory)) (drop k (drop i marks))) ≡ from base memory marks (i + k)
-unfolding from
+    → cells (base + i + k) (image (drop k (drop i memory)) (drop k (drop i marks))) ≡ cellsFrom base memory marks (i + k)
+unfolding cellsFrom
 from-add base memory marks i k = rw (drop-drop k i memory, drop-drop k i marks, add-assoc base i k)
 
 -- behind it comes no other gap
@@ -62,18 +62,18 @@ next-bounds marks i n h q = (
 )
 
 -- a gap has no cells
-pub from-next : (base : ℕ) (memory marks : List ℕ) (i n : ℕ) → NextAt marks i n → from base memory marks n ≡ from base memory marks i
-unfolding from
+pub from-next : (base : ℕ) (memory marks : List ℕ) (i n : ℕ) → NextAt marks i n → cellsFrom base memory marks n ≡ cellsFrom base memory marks i
+unfolding cellsFrom
 from-next base memory marks i n q =
-    sym (skipped (base + i) (drop i memory) (drop i marks) ∙ from-add base memory marks i (gap (drop i marks)) ∙ ap (from base memory marks) (sym q))
+    sym (skipped (base + i) (drop i memory) (drop i marks) ∙ from-add base memory marks i (gap (drop i marks)) ∙ ap (cellsFrom base memory marks) (sym q))
 
 -- the cells from index 0 on are all, and behind the last there is none
-pub from-zero : (base : ℕ) (memory marks : List ℕ) → from base memory marks 0 ≡ cells base (image memory marks)
-unfolding from
+pub from-zero : (base : ℕ) (memory marks : List ℕ) → cellsFrom base memory marks 0 ≡ cells base (image memory marks)
+unfolding cellsFrom
 from-zero base memory marks = rw add-zero
 
-pub from-end : (base : ℕ) (memory marks : List ℕ) (i : ℕ) → length memory ≡ length marks → length marks ≤ i → from base memory marks i ≡ []
-unfolding from
+pub from-end : (base : ℕ) (memory marks : List ℕ) (i : ℕ) → length memory ≡ length marks → length marks ≤ i → cellsFrom base memory marks i ≡ []
+unfolding cellsFrom
 from-end base memory marks i e h = let l : length memory ≤ i = omega arith in rw (drop-of-length-le memory l)
 
 -- ---- runs
@@ -163,8 +163,8 @@ first-run a b (suc m) memory marks e g = cut a b memory marks e
 
 -- the runs from a marked cell on: its run, and the runs behind it
 pub runs-at : (base : ℕ) (memory marks : List ℕ) (i j : ℕ) → length memory ≡ length marks → i < length marks → gap (drop i marks) ≡ 0 → EndsAt base marks i j
-    → runs (from base memory marks i) ≡ runAt base memory i j ∷ runs (from base memory marks j)
-unfolding from
+    → runs (cellsFrom base memory marks i) ≡ runAt base memory i j ∷ runs (cellsFrom base memory marks j)
+unfolding cellsFrom
 runs-at base memory marks i j e h g q =
     let l : i < length memory = omega arith in
     let k : ℕ = runOn (suc (base + i)) (drop (suc i) marks) in
@@ -172,9 +172,9 @@ runs-at base memory marks i j e h g q =
     let n : j - i ≡ suc k = omega arith in
     let same : length (drop (suc i) memory) ≡ length (drop (suc i) marks) = omega (arith, length-drop (suc i) memory, length-drop (suc i) marks) in
     let own : getD memory i 0 ∷ take k (drop (suc i) memory) ≡ take (j - i) (getD memory i 0 ∷ drop (suc i) memory) = rw n in
-    let left : cells (suc (base + i) + k) (image (drop k (drop (suc i) memory)) (drop k (drop (suc i) marks))) ≡ from base memory marks j
+    let left : cells (suc (base + i) + k) (image (drop k (drop (suc i) memory)) (drop k (drop (suc i) marks))) ≡ cellsFrom base memory marks j
     = ap (λ (a : ℕ). cells (a + k) (image (drop k (drop (suc i) memory)) (drop k (drop (suc i) marks)))) (sym (add-suc base i))
-    ∙ from-add base memory marks (suc i) k ∙ ap (from base memory marks) (sym at) in
+    ∙ from-add base memory marks (suc i) k ∙ ap (cellsFrom base memory marks) (sym at) in
     rw (drop-cons memory i 0 l, drop-cons marks i 0 h)
     (first-run (base + i) (getD memory i 0) (getD marks i 0) (drop (suc i) memory) (drop (suc i) marks) same (rw (drop-cons marks i 0 h) at g)
     ∙ ap₂ (λ (bs : List ℕ) (cs : List Cell). record { addr = base + i; bytes = bs } ∷ runs cs) own left)

@@ -145,11 +145,11 @@ fn put_cells(
 {
     let kind = (47 + width) as u8;
     let mut at = start;
-    let mut i = skip(marks, 0);
-    while i < marks.len() {
-        let j = run_end(base, marks, i);
-        at = put_line(out, at, kind, width, base + i as u32, &memory[i..j]);
-        i = skip(marks, j);
+    let mut from = skip(marks, 0);
+    while from < marks.len() {
+        let to = run_end(base, marks, from);
+        at = put_line(out, at, kind, width, base + from as u32, &memory[from..to]);
+        from = skip(marks, to);
     }
     at
 }

@@ -6,7 +6,7 @@ use mathlib.Core.List.{List}
 use lib.ListN.{length, drop}
 use borrow.Author.Needs.{needs}
 use Rattle.write.specs.Walks.{windowOf, shown, gap}
-use Rattle.write.proofs.RunWalkLaws.{from, next-bounds, run-bounds}
+use Rattle.write.proofs.RunWalkLaws.{cellsFrom, next-bounds, run-bounds}
 use Rattle.write.proofs.MeasureLaws.{Measured, measured-start, measured-more, measured-end}
 use Rattle.write.proofs.measure.Statement.{statement}
 use Rattle.write.proofs.measure.Tie as tie
@@ -15,7 +15,7 @@ abbrev Inv-loop : tie.InvT-loop
 Inv-loop base marks entry records₀ cells₀ largest₀ i₀ records cells largest i =
     (i ≤ length marks) × (records ≤ i) × (cells ≤ i) × (gap (drop i marks) ≡ 0)
     × ((memory : List ℕ) → length memory ≡ length marks
-    → Measured (shown (windowOf base memory marks)) (from base memory marks i) entry records cells largest)
+    → Measured (shown (windowOf base memory marks)) (cellsFrom base memory marks i) entry records cells largest)
 
 abbrev μ-loop : tie.MeasureT-loop
 μ-loop base marks entry records₀ cells₀ largest₀ i₀ records cells largest i = length marks - i

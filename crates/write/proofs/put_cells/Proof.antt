@@ -5,18 +5,18 @@ use native.Mathlib.Omega.{arith}
 use lib.ListN.{length, drop}
 use Rattle.write.specs.Walks.{windowOf, shown, gap}
 use Rattle.write.specs.Sizes.{dataText}
-use Rattle.write.proofs.RunWalkLaws.{from, next-bounds, run-bounds, length-run}
+use Rattle.write.proofs.RunWalkLaws.{cellsFrom, next-bounds, run-bounds, length-run}
 use Rattle.write.proofs.PieceLaws.{Pending, data-start, data-room, data-more, data-end}
 use Rattle.write.proofs.put_cells.Statement.{statement}
 use Rattle.write.proofs.put_cells.Tie as tie
 
 abbrev Inv-loop : tie.InvT-loop
-Inv-loop out₀ start base memory marks width kind at₀ i₀ out at i =
-    (i ≤ length marks) × (gap (drop i marks) ≡ 0)
-    × Pending (dataText width (shown (windowOf base memory marks))) (dataText width (from base memory marks i)) start at out₀ out
+Inv-loop out₀ start base memory marks width kind at₀ from₀ out at from =
+    (from ≤ length marks) × (gap (drop from marks) ≡ 0)
+    × Pending (dataText width (shown (windowOf base memory marks))) (dataText width (cellsFrom base memory marks from)) start at out₀ out
 
 abbrev μ-loop : tie.MeasureT-loop
-μ-loop out₀ start base memory marks width kind at₀ i₀ out at i = length marks - i
+μ-loop out₀ start base memory marks width kind at₀ from₀ out at from = length marks - from
 
 add-kind : tie.Need-add-kind Inv-loop μ-loop
 add-kind c = omega arith
@@ -39,8 +39,8 @@ run-end-requires c κs = omega arith
 
 -- a run has 1 to 16 cells
 ends : (c : tie.After-run-end Inv-loop μ-loop)
-    → (c .before .before .loop .i < c .run-end .result) × (c .run-end .result ≤ length (c .before .before .before .before .before .before .before .args .marks .now)) × (c .run-end .result ≤ c .before .before .loop .i + 16)
-ends c = run-bounds (c .before .before .before .before .before .before .before .args .base) (c .before .before .before .before .before .before .before .args .marks .now) (c .before .before .loop .i) (c .run-end .result) (omega arith) (c .run-end .ensures)
+    → (c .before .before .loop .from < c .run-end .result) × (c .run-end .result ≤ length (c .before .before .before .before .before .before .before .args .marks .now)) × (c .run-end .result ≤ c .before .before .loop .from + 16)
+ends c = run-bounds (c .before .before .before .before .before .before .before .args .base) (c .before .before .before .before .before .before .before .args .marks .now) (c .before .before .loop .from) (c .run-end .result) (omega arith) (c .run-end .ensures)
 
 cast-put-line : tie.Need-cast-put-line Inv-loop μ-loop
 cast-put-line c = omega arith
@@ -64,8 +64,8 @@ put-line-requires c κs =
     let l = c .before .before .before .before .loop in
     let r = c .before .before .run-end in
     let b = ends (c .before .before) in (
-      (s .pre .0 .0, omega (arith, b, length-run (a .memory .now) (l .i) (r .result) (omega (arith, b)))),
-      data-room (a .base) (a .memory .now) (a .marks .now) (a .width) (s .pre .0 .1) (l .i) (r .result) (omega arith) (l .inv .1) (r .ensures) (a .start) (l .at) (a .out .now) (l .out) (s .pre .1) (l .inv .2),
+      (s .pre .0 .0, omega (arith, b, length-run (a .memory .now) (l .from) (r .result) (omega (arith, b)))),
+      data-room (a .base) (a .memory .now) (a .marks .now) (a .width) (s .pre .0 .1) (l .from) (r .result) (omega arith) (l .inv .1) (r .ensures) (a .start) (l .at) (a .out .now) (l .out) (s .pre .1) (l .inv .2),
     )
 
 skip-requires-2 : tie.Need-skip-requires-2 Inv-loop μ-loop
@@ -89,7 +89,7 @@ loop-again c =
     let n = next c in (
       n .1,
       n .2,
-      data-more (a .base) (a .memory .now) (a .marks .now) (a .width) (s .pre .0 .1) (l .i) (r .result) (omega arith) (l .inv .1) (r .ensures) (a .start) (l .at) (a .out .now) (l .out) (s .pre .1) (l .inv .2)
+      data-more (a .base) (a .memory .now) (a .marks .now) (a .width) (s .pre .0 .1) (l .from) (r .result) (omega arith) (l .inv .1) (r .ensures) (a .start) (l .at) (a .out .now) (l .out) (s .pre .1) (l .inv .2)
           (c .skip2 .result) (p .result) (p .last .0) (c .skip2 .ensures) (p .ensures .0) (p .ensures .1) (p .kept .0),
     )
 
@@ -101,7 +101,7 @@ returns c =
     let s = c .before .before .before .before .before .before in
     let a = s .args in
     let l = c .before .loop in
-    data-end (a .base) (a .memory .now) (a .marks .now) (a .width) (s .pre .0 .1) (l .i) (a .start) (l .at) (a .out .now) (l .out) (c .loop-test .left) (l .inv .2)
+    data-end (a .base) (a .memory .now) (a .marks .now) (a .width) (s .pre .0 .1) (l .from) (a .start) (l .at) (a .out .now) (l .out) (c .loop-test .left) (l .inv .2)
 
 pub put-cells-spec : {M : Type 1} → statement M
 put-cells-spec =
