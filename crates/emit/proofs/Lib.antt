@@ -1,0 +1,3 @@
+pub mod OverLaws
+pub mod ByteLaws
+pub mod LineLaws

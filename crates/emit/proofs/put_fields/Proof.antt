@@ -1,0 +1,109 @@
+-- `emit::put_fields` meets its contract: the pieces that it writes are the line.
+use mathlib.Core.Path.{_≡_, _∙_}
+use native.Mathlib.Omega.{arith}
+use lib.ListN.{length, length-set}
+use borrow.Author.Needs.{needs}
+use Rattle.emit.proofs.LineLaws.{line-stored}
+use Rattle.emit.specs.Records.{covered}
+use Rattle.emit.proofs.put_fields.Statement.{statement}
+use Rattle.emit.proofs.put_fields.Tie as tie
+
+add-count : tie.Need-add-count
+add-count c = search needs
+
+add-count-2 : tie.Need-add-count-2
+add-count-2 c = search needs
+
+cast-count : tie.Need-cast-count
+cast-count c = search needs
+
+check-byte-requires : tie.Need-check-byte-requires
+check-byte-requires c κs = search needs
+
+mul-middle : tie.Need-mul-middle
+mul-middle c = search needs
+
+add-middle : tie.Need-add-middle
+add-middle c = search needs
+
+mul-end : tie.Need-mul-end
+mul-end c = search needs
+
+add-end : tie.Need-add-end
+add-end c = search needs
+
+add-last : tie.Need-add-last
+add-last c = search needs
+
+slice-write-out : tie.Need-slice-write-out
+slice-write-out c = search needs
+
+slice-write-out-2 : tie.Need-slice-write-out-2
+slice-write-out-2 c = simp length-set (omega arith)
+
+put-pair-requires : tie.Need-put-pair-requires
+put-pair-requires c κs = simp length-set (omega arith)
+
+-- the output keeps its length, stage by stage
+after-count : (c : tie.After-put-pair) → length (c .put-pair .last .0) ≡ length (c .before .before .before .before .before .before .args .out .now)
+after-count c = simp length-set at (c .put-pair .kept .0)
+
+after-address : (c : tie.After-put-pairs) → length (c .put-pairs .last .0) ≡ length (c .before .before .before .before .before .before .before .before .before .before .args .out .now)
+after-address c = c .put-pairs .kept .0 ∙ after-count (c .before .before .before .before)
+
+after-bytes : (c : tie.After-put-pairs2) → length (c .put-pairs2 .last .0) ≡ length (c .before .before .before .before .before .before .before .before .before .before .before .before .before .before .args .out .now)
+after-bytes c = c .put-pairs2 .kept .0 ∙ after-address (c .before .before .before .before)
+
+after-check : (c : tie.After-put-pair2) → length (c .put-pair2 .last .0) ≡ length (c .before .before .before .before .before .before .before .before .before .before .before .before .before .before .before .before .before .before .args .out .now)
+after-check c = c .put-pair2 .kept .0 ∙ after-bytes (c .before .before .before .before)
+
+put-pairs-requires : tie.Need-put-pairs-requires
+put-pairs-requires c κs = omega (arith, after-count (c .before .before .before))
+
+put-pairs-requires-2 : tie.Need-put-pairs-requires-2
+put-pairs-requires-2 c κs = omega (arith, after-address (c .before .before .before))
+
+put-pair-requires-2 : tie.Need-put-pair-requires-2
+put-pair-requires-2 c κs = omega (arith, after-bytes (c .before .before .before))
+
+slice-write-out-3 : tie.Need-slice-write-out-3
+slice-write-out-3 c = omega (arith, after-check (c .before .before))
+
+same-length : tie.Need-same-length
+same-length c = simp length-set (after-check (c .before .before))
+
+returns : tie.Need-returns
+unfolding covered
+returns c =
+    let s = c .before .before .before .before .before .before .before .before .before .before .before .before .before .before .before .before .before .before .before .before in
+    rw (
+      c .before .before .put-pair2 .ensures,
+      c .before .before .before .before .before .before .put-pairs2 .ensures,
+      c .before .before .before .before .before .before .before .before .before .before .put-pairs .ensures,
+      c .before .before .before .before .before .before .before .before .before .before .before .before .before .before .put-pair .ensures,
+      c .before .before .before .before .before .before .before .before .before .before .before .before .before .before .before .before .check-byte .ensures,
+    )
+    (line-stored (s .args .out .now) (s .args .kind) (s .args .address .now) (s .args .bytes .now) (s .pre .1))
+
+pub put-fields-spec : {M : Type 1} → statement M
+put-fields-spec =
+    tie.close
+    (tie.spec
+    add-count
+    add-count-2
+    cast-count
+    check-byte-requires
+    mul-middle
+    add-middle
+    mul-end
+    add-end
+    add-last
+    slice-write-out
+    slice-write-out-2
+    put-pair-requires
+    put-pairs-requires
+    put-pairs-requires-2
+    put-pair-requires-2
+    slice-write-out-3
+    same-length
+    returns)
