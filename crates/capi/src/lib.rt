@@ -1,0 +1,36 @@
+// The C face: two thin functions over the library. include/srec.h declares them.
+ghost use mathlib.Core.Path.{_≡_};
+ghost use lib.ListN.{length};
+ghost use Rattle.srec.specs.Load.{loadAnswer, memoryAfter, marksAfter};
+ghost use Rattle.srec.specs.Write.{write, writeAnswer, outputAfter};
+ghost use Rattle.load.specs.Passes.{outcome};
+ghost use Rattle.write.specs.Walks.{windowOf};
+
+// Loads a text into a window: the refusal's number, 0 for accepted.
+#[no_mangle]
+pub extern "C" fn srec_load(text: &[u8], base: u32, memory: &mut [u8], marks: &mut [u8]) -> u32
+    ensures answer { λ r. ⌜ r ≡ loadAnswer (outcome base (now (memory .entry)) (now (marks .entry)) (now (text .entry))) .refusal .reason ⌝ }
+    ensures memory { λ _. ⌜ now (memory .exit) ≡ memoryAfter (now (memory .entry)) (outcome base (now (memory .entry)) (now (marks .entry)) (now (text .entry))) ⌝ }
+    ensures marks { λ _. ⌜ now (marks .exit) ≡ marksAfter (now (marks .entry)) (outcome base (now (memory .entry)) (now (marks .entry)) (now (text .entry))) ⌝ }
+{
+    let loaded = load::load(text, base, memory, marks);
+    let refusal = loaded.refusal;
+    refusal.reason
+}
+
+// Writes the canonical text of a window: its length, 0 for a refusal.
+#[no_mangle]
+pub extern "C" fn srec_write(
+    base: u32,
+    memory: &[u8],
+    marks: &[u8],
+    header: &[u8],
+    entry: u32,
+    out: &mut [u8],
+) -> usize
+    ensures answer { λ r. ⌜ r ≡ writeAnswer (write (windowOf base (now (memory .entry)) (now (marks .entry))) (now (header .entry)) entry (length (now (out .entry)))) .length ⌝ }
+    ensures output { λ _. ⌜ now (out .exit) ≡ outputAfter (now (out .entry)) (write (windowOf base (now (memory .entry)) (now (marks .entry))) (now (header .entry)) entry (length (now (out .entry)))) ⌝ }
+{
+    let written = write::write(base, memory, marks, header, entry, out);
+    written.length
+}

@@ -1,0 +1,76 @@
+/* srec.h: Motorola S-records into lent memory, and an image back as one canonical S-record text.
+ *
+ * Link with libcapi.a (`rt staticlib capi` writes target/staticlib/libcapi.a). No heap, no global state, nothing is printed.
+ *
+ * A window is a base address and two buffers of one length: memory[i] is the cell at address base + i, and marks[i] is
+ * 1 if that cell was addressed by the text, else 0.
+ *
+ * Every pointer is to a buffer of the length that follows it. A buffer of length 0 may have any pointer, NULL too: it is
+ * not read. memory, marks and out must not overlap each other or any other buffer of the same call.
+ *
+ * A load or a write is refused by the first of these rows that applies (docs/FORMAT.md has them in full); srec_reason
+ * gives the words.
+ */
+#ifndef SREC_H
+#define SREC_H
+
+#include <stddef.h>
+#include <stdint.h>
+
+#ifdef __cplusplus
+extern "C" {
+#endif
+
+/* Loads a text into a window. Returns 0 if the text is accepted, else the number of the row (1 to 14) that refuses it.
+ *
+ *   text, text_len        the S-record text; lines end in CR, LF or both, and the last need not end
+ *   base                  the address of memory[0]
+ *   memory, memory_len    addressed cells get their data byte; all others keep theirs. Unchanged after a refusal
+ *   marks, marks_len      1 for each addressed cell, else 0, whatever they held before. All 0 after a refusal
+ */
+uint32_t srec_load(const uint8_t *text, size_t text_len, uint32_t base, uint8_t *memory, size_t memory_len,
+                   uint8_t *marks, size_t marks_len);
+
+/* Writes the canonical text of a window at the start of out. Returns its length, or 0 if a row (1, 15, 16 or 17) refuses
+ * it; a canonical text is never empty. After a refusal out is unchanged. Bytes of out behind the text are unchanged.
+ *
+ *   base, memory, memory_len, marks, marks_len   the window; each mark is 0 or 1
+ *   header, header_len                           the header's bytes, at most 252
+ *   entry                                        the address where execution starts
+ *   out, out_len                                 11 + 2 * header_len + 15 * records + 2 * cells + 26 bytes are always enough,
+ *                                                where records is at most cells
+ */
+size_t srec_write(uint32_t base, const uint8_t *memory, size_t memory_len, const uint8_t *marks, size_t marks_len,
+                  const uint8_t *header, size_t header_len, uint32_t entry, uint8_t *out, size_t out_len);
+
+/* The words for a row, or for 0; NULL for a number that is no row. */
+static inline const char *srec_reason(unsigned number)
+{
+    static const char *const words[] = {
+        "accepted",
+        "marks and memory differ in length, or the window passes 2^32",
+        "a record stands after the terminator",
+        "the record has more than 514 characters",
+        "the record is no S-record of a known type",
+        "a character is no hex digit",
+        "the record's length does not agree with its count or type",
+        "the checksum is wrong",
+        "a header record is not the first record",
+        "the address width differs from the first data record's",
+        "the count record does not agree with the data records before it",
+        "the data passes the end of the record's address width",
+        "some data lies outside the window",
+        "a cell is addressed twice",
+        "there is no terminator",
+        "the header has more than 252 bytes",
+        "a mark is neither 0 nor 1",
+        "the output is too short for the text",
+    };
+    return number < sizeof words / sizeof words[0] ? words[number] : NULL;
+}
+
+#ifdef __cplusplus
+}
+#endif
+
+#endif
