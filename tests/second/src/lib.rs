@@ -1,9 +1,9 @@
 //! A second reading of the S-record rules, to compare other programs with.
 //!
 //! `reading` is the loader and the writer in their plainest form. `cases`
-//! draws texts, windows and images that reach every row of the refusal table.
+//! draws texts, windows and images that reach every row of the refusal table,
+//! from the numbers of `random`.
 
 pub mod cases;
+pub mod random;
 pub mod reading;
-
-mod random;

@@ -1,0 +1,39 @@
+// The bench program: S-record text on standard input, its canonical text on standard output, for a window of 8,192 cells from address 0.
+use convert::Converted;
+use libc::STDIN_FILENO;
+use libc::STDOUT_FILENO;
+
+// One line: why, in which record and at which place a text is refused.
+fn print_refusal(reason: u32, ordinal: usize, place: usize) {
+    io::write_all(STDOUT_FILENO, b"refused ");
+    io::print_decimal(STDOUT_FILENO, reason as u64);
+    io::write_all(STDOUT_FILENO, b" record ");
+    io::print_decimal(STDOUT_FILENO, ordinal as u64);
+    io::write_all(STDOUT_FILENO, b" at ");
+    io::print_decimal(STDOUT_FILENO, place as u64);
+    io::write_all(STDOUT_FILENO, b"\n");
+}
+
+fn main() {
+    // one byte more than is taken, to see input that is too long
+    let mut text = [0u8; 32769];
+    let n = io::read_full(STDIN_FILENO, &mut text);
+    if n > 32768 {
+        io::write_all(STDOUT_FILENO, b"too long\n");
+        return;
+    }
+    let mut memory = [0u8; 8192];
+    let mut marks = [0u8; 8192];
+    let mut out = [0u8; 65536];
+    let converted = convert::convert(0, &text[..n], &mut memory, &mut marks, &mut out);
+    match converted {
+        Converted::Refused(refusal) => {
+            print_refusal(refusal.reason, refusal.ordinal, refusal.place);
+        }
+        Converted::Text(length) => {
+            if length <= 65536 {
+                io::write_all(STDOUT_FILENO, &out[..length]);
+            }
+        }
+    }
+}

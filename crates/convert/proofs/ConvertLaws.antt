@@ -1,0 +1,85 @@
+-- What the answers of a load and of a write say of the whole: one law for each way out of `convert`.
+use mathlib.Core.Path.{_≡_, refl, sym, ap, _∙_, subst}
+use Prim.Native.Nat.{ℕ, suc, _-_, _≤_, _<_, zero-le}
+use native.Mathlib.Omega.{arith}
+use mathlib.Core.Bool.{cond}
+use mathlib.Core.List.{List, _++_}
+use lib.Dec.{lit<}
+use lib.ListN.{length, take, replicate, length-append}
+use Rattle.window.specs.declared.Refusal.{Refusal}
+use Rattle.window.specs.Windows.{Window, row1, row16}
+use Rattle.window.specs.Images.{Image}
+use Rattle.window.specs.Plans.{Entry, Summary, Outcome}
+use Rattle.window.specs.Plans.Outcome.{refused, accepted}
+use Rattle.hex.proofs.TestLaws.{Of, either}
+use Rattle.srec.specs.declared.Header.{Header}
+use Rattle.srec.specs.declared.Loaded.{Loaded}
+use Rattle.srec.specs.declared.Written.{Written}
+use Rattle.srec.specs.Load.{load, loadAnswer, memoryAfter, marksAfter}
+use Rattle.srec.specs.Write.{WriteOutcome, row15, row17, textOf, write, writeAnswer, outputAfter}
+use Rattle.srec.specs.Write.WriteOutcome.{declined, wrote}
+use Rattle.srec.specs.Terms.{loaded, Accepted, writtenAfter}
+use Rattle.srec.proofs.LoadLaws.{accepted-is}
+use Rattle.write.specs.Walks.{windowOf}
+use Rattle.convert.specs.declared.Converted.{Converted}
+use Rattle.convert.specs.declared.Converted.the-variants.{Refused, Text}
+use Rattle.convert.specs.Conversions.{convertedBy, outputBy, converted, outputOf}
+
+-- a refused write has a reason
+abbrev Reasoned : WriteOutcome → Type 0
+Reasoned (declined f) = 0 < f .reason
+Reasoned (wrote text) = Unit {0}
+
+write-reasoned : (W : Window) (h : List ℕ) (e : Entry) (room : ℕ) → Of Reasoned (write W h e room)
+unfolding write
+write-reasoned W h e room =
+    either (row1 W) (record { got = lit< tt }) (either (row15 h) (record { got = lit< tt }) (either (row16 (W .marks)) (record { got = lit< tt })
+    (either (row17 (textOf W h e) room) (record { got = lit< tt }) (record { got = tt }))))
+
+-- a header's length is within its bytes
+pub header-fits : (W : Window) (text : List ℕ) → loaded W text .header .len ≤ length (loaded W text .header .bytes)
+header-fits W text = go (load W text)
+  where
+    go : (o : Outcome) → loadAnswer o .header .len ≤ length (loadAnswer o .header .bytes)
+    go (refused f) = zero-le
+    go (accepted s img) = omega (arith, length-append (s .header) (replicate (252 - length (s .header)) 0))
+
+-- the write behind a load is given what the load returned and left
+pub written-is : (W : Window) (text : List ℕ) (room : ℕ) (l : Loaded) (m ms : List ℕ) → l ≡ loaded W text → m ≡ memoryAfter (W .memory) (load W text)
+    → ms ≡ marksAfter (W .marks) (load W text)
+    → write (windowOf (W .base) m ms) (take (l .header .len) (l .header .bytes)) (l .entry) room ≡ writtenAfter W text room
+written-is W text room l m ms e₀ e₁ e₂ =
+    λ i. write (windowOf (W .base) (e₁ i) (e₂ i)) (take (e₀ i .header .len) (e₀ i .header .bytes)) (e₀ i .entry) room
+
+module _ (W : Window) (text out : List ℕ) where
+  -- the answer and the output of a conversion
+  abbrev pub Answers : Converted → List ℕ → Type 0
+  Answers r out′ = (r ≡ converted W text (length out)) × (out′ ≡ outputOf out W text)
+
+  pub load-refused : (f : Refusal) → f ≡ loaded W text .refusal → (f .reason ≡ 0 → ⊥) → Answers (Refused f) out
+  load-refused f e z = go (load W text) e
+    where
+      go : (o : Outcome) → f ≡ loadAnswer o .refusal → (Refused f ≡ convertedBy o (writtenAfter W text (length out))) × (out ≡ outputBy out o (writtenAfter W text (length out)))
+      go (refused g) q = (ap Refused q, refl)
+      go (accepted s img) q = absurd (z (ap (λ (x : Refusal). x .reason) q))
+
+  module _ (a : Accepted W text) (w : WriteOutcome) (is : w ≡ writtenAfter W text (length out)) where
+    -- behind an accepted load the write decides
+    by-write : (r : Converted) (out′ : List ℕ) → ((s : Summary) (img : Image) → r ≡ convertedBy (accepted s img) w) → out′ ≡ outputAfter out w → Answers r out′
+    by-write r out′ q m =
+        let l : (s : Summary) × (img : Image) × (load W text ≡ accepted s img) = accepted-is W text a in
+        (q (l .0) (l .1) ∙ (λ i. convertedBy (sym (l .2) i) (is i)), m ∙ (λ i. outputBy out (sym (l .2) i) (is i)))
+
+    pub write-refused : (f : Refusal) (out′ : List ℕ) → f ≡ writeAnswer w .refusal → (f .reason ≡ 0 → ⊥) → out′ ≡ outputAfter out w → Answers (Refused f) out′
+    write-refused f out′ e z m = by-write (Refused f) out′ (λ s img. go s img w e) m
+      where
+        go : (s : Summary) (img : Image) (x : WriteOutcome) → f ≡ writeAnswer x .refusal → Refused f ≡ convertedBy (accepted s img) x
+        go s img (declined g) q = ap Refused q
+        go s img (wrote t) q = absurd (z (ap (λ (x : Refusal). x .reason) q))
+
+    pub text-written : (n : ℕ) (out′ : List ℕ) → writeAnswer w .refusal .reason ≡ 0 → n ≡ writeAnswer w .length → out′ ≡ outputAfter out w → Answers (Text n) out′
+    text-written n out′ z e m = by-write (Text n) out′ (λ s img. go s img w z e (subst Reasoned (sym is) (write-reasoned _ _ _ (length out) .got))) m
+      where
+        go : (s : Summary) (img : Image) (x : WriteOutcome) → writeAnswer x .refusal .reason ≡ 0 → n ≡ writeAnswer x .length → Reasoned x → Text n ≡ convertedBy (accepted s img) x
+        go s img (declined g) q l r = absurd (omega arith)
+        go s img (wrote t) q l r = ap Text l

@@ -1,0 +1,104 @@
+-- `convert` meets its contract: each way out is one law of ConvertLaws.
+use mathlib.Core.Path.{_≡_, sym, ap, _∙_}
+use lib.ListN.{length, take}
+use lib.Seq.{length-take-le}
+use Rattle.window.specs.declared.Refusal.{Refusal}
+use Rattle.srec.specs.declared.Loaded.{Loaded}
+use Rattle.srec.specs.declared.Written.{Written}
+use Rattle.srec.specs.Terms.{Accepted}
+use Rattle.write.specs.Walks.{windowOf}
+use Rattle.convert.proofs.ConvertLaws.{header-fits, written-is, load-refused, write-refused, text-written}
+use borrow.Author.Needs.{needs}
+use Rattle.convert.proofs.convert.Statement.{statement}
+use Rattle.convert.proofs.convert.Tie as tie
+
+load-requires : tie.Need-load-requires
+load-requires c κs = search needs
+
+same-length : tie.Need-same-length
+same-length c = search needs
+
+same-length-2 : tie.Need-same-length-2
+same-length-2 c = search needs
+
+returns : tie.Need-returns
+returns c =
+    let s = c .before .before .before .before .before .before .before .before .before .before .before .before .before .before in
+    let l = c .before .before .before .before .before .before .before .load in
+    let W = windowOf (s .args .base) (s .args .memory .now) (s .args .marks .now) in
+    load-refused W (s .args .text .now) (s .args .out .now) _ (ap (λ (x : Loaded). x .refusal) (l .ensures .0)) (c .if1 .taken)
+
+array-share-prefix-bytes : tie.Need-array-share-prefix-bytes
+array-share-prefix-bytes c =
+    let s = c .before .before .before .before .before .before .before .before .before .before .before .before .before .before .before .before .before .before in
+    let l = c .before .before .before .before .before .before .before .before .before .before .before .load in
+    let W = windowOf (s .args .base) (s .args .memory .now) (s .args .marks .now) in
+    rw (l .ensures .0) (header-fits W (s .args .text .now))
+
+slice-aggregate-write : tie.Need-slice-aggregate-write
+slice-aggregate-write c =
+    let s = c .before .before .before .before .before .before .before .before .before .before .before .before .before .before .before .before .before .before .before in
+    let l = c .before .before .before .before .before .before .before .before .before .before .before .before .load in
+    let W = windowOf (s .args .base) (s .args .memory .now) (s .args .marks .now) in
+    sym (length-take-le _ _ (rw (l .ensures .0) (header-fits W (s .args .text .now))))
+
+write-requires : tie.Need-write-requires
+write-requires c κs = search needs
+
+same-length-3 : tie.Need-same-length-3
+same-length-3 c = search needs
+
+same-length-4 : tie.Need-same-length-4
+same-length-4 c = search needs
+
+same-length-5 : tie.Need-same-length-5
+same-length-5 c = search needs
+
+returns-2 : tie.Need-returns-2
+returns-2 c =
+    let s = c .before .before .before .before .before .before .before .before .before .before .before .before .before .before .before .before .before .before .before .before .before .before .before .before .before .before in
+    let l = c .before .before .before .before .before .before .before .before .before .before .before .before .before .before .before .before .before .before .before .load in
+    let W = windowOf (s .args .base) (s .args .memory .now) (s .args .marks .now) in
+    let a : Accepted W (s .args .text .now) = sym (ap (λ (x : Loaded). x .refusal .reason) (l .ensures .0)) ∙ c .before .before .before .before .before .before .before .before .before .before .before .before .if1 .left in
+    let w = c .before .before .before .before .before .write in
+    let is = written-is W (s .args .text .now) (length (s .args .out .now)) (l .result) _ _ (l .ensures .0) (l .ensures .1 .0) (l .ensures .1 .1) in
+    write-refused W (s .args .text .now) (s .args .out .now) a _ is _ _ (ap (λ (x : Written). x .refusal) (w .ensures .0)) (c .if2 .taken) (w .ensures .1)
+
+same-length-6 : tie.Need-same-length-6
+same-length-6 c = search needs
+
+same-length-7 : tie.Need-same-length-7
+same-length-7 c = search needs
+
+same-length-8 : tie.Need-same-length-8
+same-length-8 c = search needs
+
+returns-3 : tie.Need-returns-3
+returns-3 c =
+    let s = c .before .before .before .before .before .before .before .before .before .before .before .before .before .before .before .before .before .before .before .before .before .before .before .before .before .before in
+    let l = c .before .before .before .before .before .before .before .before .before .before .before .before .before .before .before .before .before .before .before .load in
+    let W = windowOf (s .args .base) (s .args .memory .now) (s .args .marks .now) in
+    let a : Accepted W (s .args .text .now) = sym (ap (λ (x : Loaded). x .refusal .reason) (l .ensures .0)) ∙ c .before .before .before .before .before .before .before .before .before .before .before .before .if1 .left in
+    let w = c .before .before .before .before .before .write in
+    let is = written-is W (s .args .text .now) (length (s .args .out .now)) (l .result) _ _ (l .ensures .0) (l .ensures .1 .0) (l .ensures .1 .1) in
+    text-written W (s .args .text .now) (s .args .out .now) a _ is _ _ (sym (ap (λ (x : Written). x .refusal .reason) (w .ensures .0)) ∙ c .if2 .left) (ap (λ (x : Written). x .length) (w .ensures .0)) (w .ensures .1)
+
+pub convert-spec : {M : Type 1} → statement M
+convert-spec =
+    tie.close
+    (tie.spec
+    load-requires
+    same-length
+    same-length-2
+    returns
+    array-share-prefix-bytes
+    slice-aggregate-write
+    write-requires
+    same-length-3
+    same-length-4
+    same-length-5
+    returns-2
+    same-length-6
+    same-length-7
+    same-length-8
+    returns-3)

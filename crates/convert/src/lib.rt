@@ -1,0 +1,39 @@
+// A text to its canonical text: a load, and a write of what it left.
+use window::Refusal;
+ghost use mathlib.Core.Path.{_≡_};
+ghost use lib.ListN.{length};
+ghost use Rattle.write.specs.Walks.{windowOf};
+ghost use Rattle.convert.specs.Conversions.{converted, outputOf};
+
+// The refusal of the load or of the write, or the length of the canonical text.
+pub enum Converted {
+    Refused(Refusal),
+    Text(usize),
+}
+
+// Loads a text into a window and writes what it left to the output.
+pub fn convert(
+    base: u32,
+    text: &[u8],
+    memory: &mut [u8],
+    marks: &mut [u8],
+    out: &mut [u8],
+) -> Converted
+    ensures answer { λ r. ⌜ r ≡ converted (windowOf base (now (memory .entry)) (now (marks .entry))) (now (text .entry)) (length (now (out .entry))) ⌝ }
+    ensures output { λ _. ⌜ now (out .exit) ≡ outputOf (now (out .entry)) (windowOf base (now (memory .entry)) (now (marks .entry))) (now (text .entry)) ⌝ }
+{
+    let loaded = load::load(text, base, memory, marks);
+    let refusal = loaded.refusal;
+    if refusal.reason != 0 {
+        return Converted::Refused(refusal);
+    }
+    let header = loaded.header;
+    let bytes = header.bytes;
+    let len = header.len;
+    let written = write::write(base, memory, marks, &bytes[..len], loaded.entry, out);
+    let declined = written.refusal;
+    if declined.reason != 0 {
+        return Converted::Refused(declined);
+    }
+    Converted::Text(written.length)
+}

@@ -1,0 +1,19 @@
+//! Compares the compiled library with the second reading of the rules.
+//!
+//! `loads` and `writes` call both with the same arguments and compare all that
+//! comes back. `properties` asks of the library alone what must hold of texts
+//! that are loaded and written again. `examples` holds the files of the
+//! examples folder to the second reading.
+
+pub mod examples;
+pub mod loads;
+pub mod properties;
+pub mod settings;
+pub mod writes;
+
+mod content;
+mod guarded;
+mod library;
+mod tally;
+
+pub use guarded::guards_notice;
