@@ -73,13 +73,14 @@ static int read_file(const char *name, struct text *text)
 }
 
 /* Returns 0 if the whole word is a number of at most `most`. */
-static int parse(const char *word, uintmax_t most, uintmax_t *number)
+static int parse(const char *word, unsigned long long most, unsigned long long *number)
 {
     char *end;
 
-    /* strtoumax would take blanks and signs too. An octal number is a decimal one with zeros in front. */
+    /* strtoull would take blanks and a sign too. */
     if (word[0] < '0' || word[0] > '9')
         return -1;
+    /* A zero in front does not mean octal. */
     int base = word[0] == '0' && (word[1] == 'x' || word[1] == 'X') ? 16 : 10;
     errno = 0;
     *number = strtoull(word, &end, base);
@@ -100,9 +101,13 @@ static int write_text(const struct window *window)
         return trouble("output", strerror(ENOMEM));
     size_t length = srec_write(window->base, window->memory, window->length, window->marks, window->length,
                                NULL, 0, 0, out, room);
-    int written = fwrite(out, 1, length, stdout) == length && fflush(stdout) == 0;
+    int status = ACCEPTED;
+    if (length == 0)
+        status = trouble("output", srec_reason(17));
+    else if (fwrite(out, 1, length, stdout) != length || fflush(stdout) != 0)
+        status = trouble("standard output", strerror(errno));
     free(out);
-    return written ? ACCEPTED : trouble("standard output", strerror(errno));
+    return status;
 }
 
 static int load_and_write(const char *name, const struct text *text, uint32_t base, size_t length)
@@ -131,8 +136,8 @@ static int load_and_write(const char *name, const struct text *text, uint32_t ba
 
 int main(int argc, char **argv)
 {
-    uintmax_t base = 0;
-    uintmax_t length = 65536;
+    unsigned long long base = 0;
+    unsigned long long length = 65536;
 
     if (argc < 2 || argc > 4 || (argc > 2 && parse(argv[2], UINT32_MAX, &base)) ||
         (argc > 3 && parse(argv[3], SIZE_MAX, &length))) {
@@ -140,8 +145,11 @@ int main(int argc, char **argv)
         return TROUBLE;
     }
     struct text text = {NULL, 0};
-    int status = read_file(argv[1], &text) ? trouble(argv[1], strerror(errno))
-                                           : load_and_write(argv[1], &text, (uint32_t)base, (size_t)length);
+    int status;
+    if (read_file(argv[1], &text) != 0)
+        status = trouble(argv[1], strerror(errno));
+    else
+        status = load_and_write(argv[1], &text, (uint32_t)base, (size_t)length);
     free(text.bytes);
     return status;
 }

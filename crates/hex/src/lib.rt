@@ -7,7 +7,7 @@ ghost use Rattle.hex.specs.Numbers.{number, sum};
 ghost use Rattle.hex.specs.Tables.{digitOr16, digitTable};
 
 // The value of a digit of either case; 16 for a character that is none.
-pub fn digit_of(c: u8) -> u8
+fn digit_of(c: u8) -> u8
     ensures { λ r. ⌜ r ≡ digitOr16 c ⌝ }
 {
     match c {
@@ -32,7 +32,7 @@ pub fn digit_table() -> [u8; 256]
 }
 
 // Is it a hex digit?
-pub fn is_digit(table: &[u8; 256], c: u8) -> bool
+fn is_digit(table: &[u8; 256], c: u8) -> bool
     requires { ⌜ now table ≡ digitTable ⌝ }
     ensures { λ r. ⌜ r ≡ isHex c ⌝ }
 {
@@ -40,7 +40,7 @@ pub fn is_digit(table: &[u8; 256], c: u8) -> bool
 }
 
 // What a hex digit stands for; 0 for what is none.
-pub fn value_of(table: &[u8; 256], c: u8) -> u8
+fn value_of(table: &[u8; 256], c: u8) -> u8
     requires { ⌜ now table ≡ digitTable ⌝ }
     ensures { λ r. ⌜ (r ≡ value c) × (r < 16) ⌝ }
 {

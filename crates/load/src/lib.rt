@@ -40,14 +40,14 @@ pub enum Step {
 }
 
 // Has the first data record another width? Row 9.
-pub fn differs(first: usize, width: usize) -> bool
+fn differs(first: usize, width: usize) -> bool
     ensures { λ r. ⌜ r ≡ (not (eqb first 0) && not (eqb first width)) ⌝ }
 {
     first != 0 && first != width
 }
 
 // How many addresses `width` bytes hold.
-pub fn limit(width: usize) -> usize
+fn limit(width: usize) -> usize
     requires { ⌜ (2 ≤ width) × (width ≤ 4) ⌝ }
     ensures { λ r. ⌜ r ≡ 2 ^ (8 * width) ⌝ }
 {
@@ -113,7 +113,7 @@ pub enum Checked {
 }
 
 // The refusal of a record that could not be read.
-pub fn unread(answer: Record, number: usize) -> Checked
+fn unread(answer: Record, number: usize) -> Checked
     ensures { λ r. ⌜ r ≡ unreadAs answer number ⌝ }
 {
     match answer {
@@ -135,7 +135,7 @@ pub fn unread(answer: Record, number: usize) -> Checked
 }
 
 // Row 2, or the end, behind a terminator whose last character stands before `at`.
-pub fn ended(text: &[u8], at: usize, state: State, entry: u32) -> Checked
+fn ended(text: &[u8], at: usize, state: State, entry: u32) -> Checked
     requires { ⌜ (at ≤ length (now text)) × (state .number + 1 < 2 ^ 64) ⌝ }
     ensures { λ r. ⌜ r ≡ endedAs state entry (lines at (drop at (now (text .entry)))) ⌝ }
 {
@@ -155,7 +155,7 @@ pub fn ended(text: &[u8], at: usize, state: State, entry: u32) -> Checked
 }
 
 // Checks a text against a window whose marks are all zero, and marks the cells that it addresses.
-pub fn check(table: &[u8; 256], text: &[u8], base: usize, marks: &mut [u8]) -> Checked
+fn check(table: &[u8; 256], text: &[u8], base: usize, marks: &mut [u8]) -> Checked
     requires { ⌜ (now table ≡ digitTable) × (now marks ≡ replicate (length (now marks)) 0) ⌝ }
     ensures { λ r. ⌜ Told (placed base (blank (length (now (marks .entry)))) (plan (now (text .entry)))) r (now (marks .exit)) ⌝ }
 {
@@ -220,7 +220,7 @@ pub fn check(table: &[u8; 256], text: &[u8], base: usize, marks: &mut [u8]) -> C
 }
 
 // Stores the data of a record that was checked: the cells from its address on, in the middle of memory, are lent.
-pub fn store_record(table: &[u8; 256], base: usize, memory: &mut [u8], chars: &[u8])
+fn store_record(table: &[u8; 256], base: usize, memory: &mut [u8], chars: &[u8])
     requires { ⌜ (now table ≡ digitTable) × Placeable base (length (now memory)) (read (now chars)) ⌝ }
     ensures { λ _. ⌜ now (memory .exit) ≡ storedBy base (now (memory .entry)) (read (now (chars .entry))) ⌝ }
 {
@@ -245,7 +245,7 @@ pub fn store_record(table: &[u8; 256], base: usize, memory: &mut [u8], chars: &[
 }
 
 // Stores the data of every record of a text that was accepted.
-pub fn store_all(table: &[u8; 256], text: &[u8], base: usize, memory: &mut [u8])
+fn store_all(table: &[u8; 256], text: &[u8], base: usize, memory: &mut [u8])
     requires { ⌜ (now table ≡ digitTable) × Accepts (placed base (blank (length (now memory))) (plan (now text))) ⌝ }
     ensures { λ _. ⌜ now (memory .exit) ≡ memoryAfter (now (memory .entry)) (placed base (blank (length (now (memory .entry)))) (plan (now (text .entry)))) ⌝ }
 {
@@ -261,7 +261,7 @@ pub fn store_all(table: &[u8; 256], text: &[u8], base: usize, memory: &mut [u8])
 }
 
 // The bytes of up to 252 pairs of digits, and zero behind them.
-pub fn padded(table: &[u8; 256], chars: &[u8]) -> [u8; 252]
+fn padded(table: &[u8; 256], chars: &[u8]) -> [u8; 252]
     requires { ⌜ (now table ≡ digitTable) × (length (now chars) ≤ 504) ⌝ }
     ensures { λ r. ⌜ r ≡ headerOf (bytes (now (chars .entry))) .bytes ⌝ }
 {
@@ -276,7 +276,7 @@ pub fn padded(table: &[u8; 256], chars: &[u8]) -> [u8; 252]
 }
 
 // The header that a record holds: the data of an S0, or none.
-pub fn header_in(table: &[u8; 256], chars: &[u8]) -> Header
+fn header_in(table: &[u8; 256], chars: &[u8]) -> Header
     requires { ⌜ now table ≡ digitTable ⌝ }
     ensures { λ r. ⌜ r ≡ headerOf (s0Data (read (now (chars .entry)))) ⌝ }
 {
@@ -306,7 +306,7 @@ pub fn header_in(table: &[u8; 256], chars: &[u8]) -> Header
 }
 
 // The header of a text: that of its first record.
-pub fn header_of(table: &[u8; 256], text: &[u8]) -> Header
+fn header_of(table: &[u8; 256], text: &[u8]) -> Header
     requires { ⌜ now table ≡ digitTable ⌝ }
     ensures { λ r. ⌜ r ≡ headerOf (firstHeader (lines 0 (now (text .entry)))) ⌝ }
 {
@@ -321,7 +321,7 @@ pub fn header_of(table: &[u8; 256], text: &[u8]) -> Header
 }
 
 // The answer of a load that is refused.
-pub fn refused_answer(refusal: Refusal) -> Loaded
+fn refused_answer(refusal: Refusal) -> Loaded
     ensures { λ r. ⌜ r ≡ loadAnswer (refused refusal) ⌝ }
 {
     Loaded {

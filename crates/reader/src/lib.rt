@@ -29,14 +29,14 @@ pub enum Record {
 }
 
 // A line end: LF or CR.
-pub fn is_end(c: u8) -> bool
+fn is_end(c: u8) -> bool
     ensures { λ r. ⌜ r ≡ isEnd c ⌝ }
 {
     c == 10 || c == 13
 }
 
 // How many line ends a text begins with.
-pub fn count_ends(text: &[u8]) -> usize
+fn count_ends(text: &[u8]) -> usize
     ensures { λ r. ⌜ (r ≡ leading (now (text .entry))) × (r ≤ length (now (text .entry))) ⌝ }
 {
     let mut i: usize = 0;
@@ -50,7 +50,7 @@ pub fn count_ends(text: &[u8]) -> usize
 }
 
 // How many characters a text begins with before a line end.
-pub fn count_chars(text: &[u8]) -> usize
+fn count_chars(text: &[u8]) -> usize
     ensures { λ r. ⌜ (r ≡ length (front (now (text .entry)))) × (r ≤ length (now (text .entry))) ⌝ }
 {
     let mut i: usize = 0;
@@ -94,7 +94,7 @@ pub fn width_of(kind: u8) -> usize
 }
 
 // Row 6 does not apply to a type with `width` address bytes, n characters and a count.
-pub fn fits(kind: u8, width: usize, n: usize, count: usize) -> bool
+fn fits(kind: u8, width: usize, n: usize, count: usize) -> bool
     requires { ⌜ (widthOr0 (kindOf kind) ≡ width) × (2 ≤ width) × (width ≤ 4) × (count < 256) ⌝ }
     ensures { λ r. ⌜ r ≡ not (row6 (known (kindOf kind)) n count) ⌝ }
 {

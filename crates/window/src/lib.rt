@@ -24,7 +24,7 @@ pub fn fill(part: &mut [u8], value: u8)
 }
 
 // Is no mark of a part set? It looks at each, with no way out before the end: that is faster.
-pub fn is_free(part: &[u8]) -> bool
+fn is_free(part: &[u8]) -> bool
     ensures { λ r. ⌜ r ≡ isFree (now (part .entry)) ⌝ }
 {
     let mut any: u8 = 0;

@@ -1,0 +1,90 @@
+/* empty: buffers of length 0, for which any pointer will do. */
+#include <string.h>
+
+#include "check.h"
+#include "srec.h"
+
+static const uint8_t terminator[] = {'S', '9', '0', '3', '0', '0', '0', '0', 'F', 'C'};
+static const uint8_t one_cell[] = "S1040000AA51\nS9030000FC\n";
+static const char shortest[] = "S0030000FC\nS5030000FC\nS9030000FC\n";
+
+enum { SHORTEST = sizeof shortest - 1, ONE_CELL = sizeof one_cell - 1 };
+
+/* Row 14, and the window is as after any refusal. */
+static void empty_text(void)
+{
+    uint8_t memory[3] = {1, 2, 3};
+    uint8_t marks[3] = {1, 0, 7};
+
+    CHECK(srec_load(NULL, 0, 0, memory, 3, marks, 3) == 14);
+    CHECK(memory[0] == 1 && memory[1] == 2 && memory[2] == 3);
+    CHECK(marks[0] == 0 && marks[1] == 0 && marks[2] == 0);
+    CHECK(srec_load(one_cell, 0, 0, memory, 3, marks, 3) == 14);
+}
+
+static void empty_window(void)
+{
+    CHECK(srec_load(terminator, sizeof terminator, 0, NULL, 0, NULL, 0) == 0);
+    CHECK(srec_load(terminator, sizeof terminator, UINT32_MAX, NULL, 0, NULL, 0) == 0);
+    CHECK(srec_load(one_cell, ONE_CELL, 0, NULL, 0, NULL, 0) == 12);
+    CHECK(srec_load(NULL, 0, 0, NULL, 0, NULL, 0) == 14);
+}
+
+/* Row 1 for marks and memory of different length. All marks are 0 even then. */
+static void half_a_window(void)
+{
+    uint8_t memory[2] = {8, 9};
+    uint8_t marks[2] = {5, 1};
+
+    CHECK(srec_load(terminator, sizeof terminator, 0, NULL, 0, marks, 2) == 1);
+    CHECK(marks[0] == 0 && marks[1] == 0);
+    CHECK(srec_load(terminator, sizeof terminator, 0, memory, 2, NULL, 0) == 1);
+    CHECK(memory[0] == 8 && memory[1] == 9);
+    CHECK(srec_write(0, memory, 2, NULL, 0, NULL, 0, 0, memory, 0) == 0);
+    CHECK(srec_write(0, NULL, 0, marks, 2, NULL, 0, 0, memory, 0) == 0);
+}
+
+static void write_empty_window(void)
+{
+    const uint8_t header[] = {'A'};
+    uint8_t out[SHORTEST + 2];
+
+    CHECK(srec_write(7, NULL, 0, NULL, 0, NULL, 0, 0, out, SHORTEST) == SHORTEST);
+    CHECK(memcmp(out, shortest, SHORTEST) == 0);
+    CHECK(srec_write(7, NULL, 0, NULL, 0, header, 0, 0, out, SHORTEST) == SHORTEST);
+    CHECK(srec_write(7, NULL, 0, NULL, 0, header, 1, 0, out, sizeof out) == SHORTEST + 2);
+    CHECK(memcmp(out, "S004000041BA\n", 13) == 0);
+}
+
+static void write_empty_header(void)
+{
+    const uint8_t memory[] = {0xAA};
+    const uint8_t marks[] = {1};
+    const char text[] = "S0030000FC\nS1040000AA51\nS5030001FB\nS9030000FC\n";
+    const size_t length = sizeof text - 1;
+    uint8_t out[sizeof text];
+
+    CHECK(srec_write(0, memory, 1, marks, 1, NULL, 0, 0, out, sizeof out) == length);
+    CHECK(memcmp(out, text, length) == 0);
+}
+
+/* Row 17, however little there is to write. */
+static void empty_output(void)
+{
+    const uint8_t memory[] = {0xAA};
+    const uint8_t marks[] = {1};
+
+    CHECK(srec_write(0, memory, 1, marks, 1, memory, 1, 0, NULL, 0) == 0);
+    CHECK(srec_write(0, NULL, 0, NULL, 0, NULL, 0, 0, NULL, 0) == 0);
+}
+
+int main(void)
+{
+    empty_text();
+    empty_window();
+    half_a_window();
+    write_empty_window();
+    write_empty_header();
+    empty_output();
+    return failures != 0;
+}

@@ -1,0 +1,89 @@
+/* huge: lengths of 2^32 and more, which would look small if 32 bits of them were kept.
+ *
+ * The address space is reserved and, but for a few pages, never filled. Where a row applies before a buffer is looked
+ * at, its pages can not even be read.
+ */
+#ifndef _GNU_SOURCE
+#define _GNU_SOURCE
+#endif
+#include <stdlib.h>
+#include <string.h>
+#include <sys/mman.h>
+
+#include "check.h"
+#include "srec.h"
+
+static const size_t TOP = (size_t)1 << 32;
+
+static const uint8_t terminator[] = {'S', '9', '0', '3', '0', '0', '0', '0', 'F', 'C'};
+
+/* So many bytes, all 0, as far as they may be read at all. */
+static uint8_t *reserve(size_t length, int protection)
+{
+    void *pages = mmap(NULL, length, protection, MAP_PRIVATE | MAP_ANONYMOUS | MAP_NORESERVE, -1, 0);
+    if (pages == MAP_FAILED) {
+        perror("mmap");
+        exit(2);
+    }
+    return (uint8_t *)pages;
+}
+
+static void refused_unseen(void)
+{
+    const size_t length = TOP + 16;
+    uint8_t *hidden = reserve(length, PROT_NONE);
+    uint8_t marks[4] = {1, 1, 1, 1};
+    uint8_t out[100];
+
+    CHECK(srec_load(terminator, sizeof terminator, 0, hidden, TOP + 4, marks, 4) == 1);
+    CHECK(marks[0] == 0 && marks[3] == 0);
+    CHECK(srec_write(0, hidden, TOP + 1, hidden, TOP + 1, NULL, 0, 0, out, sizeof out) == 0);
+    CHECK(srec_write(1, hidden, TOP, hidden, TOP, NULL, 0, 0, out, sizeof out) == 0);
+    CHECK(srec_write(0, hidden, TOP + 4, marks, 4, NULL, 0, 0, out, sizeof out) == 0);
+    CHECK(srec_write(0, marks, 4, marks, 4, hidden, TOP + 5, 0, out, sizeof out) == 0);
+    munmap(hidden, length);
+}
+
+static void long_record(void)
+{
+    const size_t length = TOP + 10;
+    uint8_t *text = reserve(length, PROT_READ);
+
+    CHECK(srec_load(text, length, 0, NULL, 0, NULL, 0) == 3);
+    munmap(text, length);
+}
+
+static void large_output(void)
+{
+    uint8_t *out = reserve(TOP, PROT_READ | PROT_WRITE);
+
+    CHECK(srec_write(0, NULL, 0, NULL, 0, NULL, 0, 0, out, TOP) == 33);
+    CHECK(memcmp(out, "S0030000FC\nS5030000FC\nS9030000FC\n", 34) == 0);
+    munmap(out, TOP);
+}
+
+/* All addresses there are, with the last one marked. */
+static void whole_window(void)
+{
+    const char text[] = "S0030000FC\nS306FFFFFFFF5AA3\nS5030001FB\nS70500000000FA\n";
+    const size_t length = sizeof text - 1;
+    uint8_t *memory = reserve(TOP, PROT_READ | PROT_WRITE);
+    uint8_t *marks = reserve(TOP, PROT_READ | PROT_WRITE);
+    uint8_t out[sizeof text];
+
+    memory[TOP - 1] = 0x5A;
+    marks[TOP - 1] = 1;
+    CHECK(srec_write(0, memory, TOP, marks, TOP, NULL, 0, 0, out, sizeof out) == length);
+    CHECK(memcmp(out, text, length) == 0);
+    munmap(memory, TOP);
+    munmap(marks, TOP);
+}
+
+int main(void)
+{
+    refused_unseen();
+    long_record();
+    large_output();
+    whole_window();
+    return failures != 0;
+}
