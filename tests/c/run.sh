@@ -1,0 +1,107 @@
+#!/bin/sh
+# Compiles the example and the programs here against include/srec.h and the library, as C and as C++, and runs them.
+# SREC_LIB_DIR and SREC_INCLUDE_DIR name other folders for libcapi.a and srec.h, STRESS_CASES another number of cases.
+# One line a check; the last line is 'N passed, M failed'.
+set -u
+root=$(cd "$(dirname "$0")/../.." && pwd) || exit 2
+library=${SREC_LIB_DIR:-$root/target/staticlib}/libcapi.a
+include=${SREC_INCLUDE_DIR:-$root/include}
+examples=$root/examples
+cases=${STRESS_CASES:-1000}
+if [ ! -f "$library" ]; then
+    echo "$library is missing: run 'rt staticlib capi', or set SREC_LIB_DIR to a folder that has libcapi.a" >&2
+    exit 2
+fi
+bin=$(mktemp -d) || exit 2
+trap 'rm -rf "$bin"' EXIT
+trap 'exit 2' HUP INT TERM
+passed=0 failed=0
+
+check() { # TITLE COMMAND..: runs the command and shows what it printed if it fails.
+    title=$1
+    shift
+    if "$@" >"$bin/log" 2>&1; then
+        passed=$((passed + 1))
+        echo "ok    $title"
+    else
+        echo "FAIL  $title (exit status $?)"
+        sed 's/^/      /' "$bin/log"
+        failed=$((failed + 1))
+    fi
+}
+
+compile() { # NAME SOURCE FLAGS..: as C to bin/NAME and as C++ to bin/NAME++.
+    name=$1 source=$2
+    shift 2
+    check "$name compiles as C" \
+        gcc -std=c11 -Wall -Wextra -Werror -O2 -g "$@" -I "$include" "$source" "$library" -o "$bin/$name"
+    check "$name compiles as C++" \
+        g++ -std=c++17 -Wall -Wextra -Werror -O2 -g "$@" -I "$include" -x c++ "$source" -x none "$library" -o "$bin/$name++"
+}
+
+watched() { # PROGRAM ARGUMENTS..: exit status 9 if it touches what it should not.
+    program=$1
+    shift
+    # Without valgrind the programs were compiled with checks of their own.
+    if [ "$valgrind" = yes ]; then
+        valgrind --error-exitcode=9 -q "$bin/$program" "$@"
+    else
+        "$bin/$program" "$@"
+    fi
+}
+
+gives() { # STATUS OUTPUT WORDS ARGUMENTS..: what the example must give; no words, no message.
+    status=$1 output=$2 words=$3
+    shift 3
+    watched canonical "$@" >"$bin/out" 2>"$bin/err"
+    got=$?
+    cat "$bin/err"
+    echo "exit status $got, to be $status"
+    [ "$got" -eq "$status" ] && cmp "$bin/out" "$output" || return 1
+    if [ -n "$words" ]; then
+        grep -qF -- "$words" "$bin/err"
+    else
+        [ ! -s "$bin/err" ]
+    fi
+}
+
+valgrind=no flags=-fsanitize=address,undefined
+if command -v valgrind >/dev/null 2>&1; then
+    valgrind=yes flags=
+else
+    echo "no valgrind: the programs are compiled with $flags"
+fi
+for name in words empty stress; do
+    compile "$name" "$root/tests/c/$name.c" $flags
+done
+compile huge "$root/tests/c/huge.c"
+compile canonical "$examples/canonical.c" $flags
+
+for program in words words++ empty empty++; do
+    check "$program" watched "$program"
+done
+check "huge" "$bin/huge"
+check "stress, $cases cases" watched stress "$cases" "$examples"/*.srec
+cat "$bin/log"
+check "stress++, ten times as many, not watched" "$bin/stress++" "${cases}0" "$examples"/*.srec
+
+sample=$examples/sample.srec
+canonical=$examples/sample.canonical
+nothing=/dev/null
+outside='row 12: some data lies outside the window'
+check "example: sample" gives 0 "$canonical" '' "$sample"
+check "example: its own output" gives 0 "$canonical" '' "$canonical"
+check "example: a larger window" gives 0 "$canonical" '' "$sample" 0 0x12345
+check "example: a base too high" gives 1 $nothing "$outside" "$sample" 1
+check "example: a window too short" gives 1 $nothing "$outside" "$sample" 0x0 65535
+check "example: a window of no cells" gives 1 $nothing "$outside" "$sample" 0 0
+check "example: a window past 2^32" gives 1 $nothing 'row 1: ' "$sample" 0xFFFFFFFF 2
+check "example: lost bit" gives 1 $nothing 'row 13: a cell is addressed twice' "$examples/lost-bit.srec"
+check "example: no text" gives 1 $nothing 'row 14: there is no terminator' /dev/null
+check "example: no argument" gives 2 $nothing 'usage: '
+check "example: no number" gives 2 $nothing 'usage: ' "$sample" -1
+check "example: a number too large" gives 2 $nothing 'usage: ' "$sample" 0x100000000
+check "example: no file" gives 2 $nothing 'No such file' "$bin/none"
+
+echo "$passed passed, $failed failed"
+[ "$failed" -eq 0 ]

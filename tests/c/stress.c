@@ -1,0 +1,298 @@
+/* stress CASES FILE...: loads drawn and mutated texts, writes what was accepted, and loads that again.
+ *
+ * Every buffer of the library comes from malloc and is just as long as the library is told. Marks are never set before
+ * a load, and memory only in half of the cases. So under valgrind any access outside a buffer is seen, and any use of
+ * what a buffer held before. The cases depend on the arguments only.
+ */
+#include <stdlib.h>
+#include <string.h>
+
+#include "check.h"
+#include "srec.h"
+
+enum { LAST_ROW = 14, ROOM = 16384, LONGEST_FILE = 8192 };
+
+struct text {
+    uint8_t *bytes;
+    size_t length;
+};
+
+/* `before` is what memory held, or NULL if it was never set. */
+struct window {
+    uint32_t base;
+    uint8_t *memory;
+    size_t length;
+    uint8_t *marks;
+    size_t marks_length;
+    uint8_t *before;
+};
+
+/* splitmix64, below `bound`. */
+static size_t draw(size_t bound)
+{
+    static uint64_t state = 1;
+    state += 0x9E3779B97F4A7C15u;
+    uint64_t z = state;
+    z = (z ^ (z >> 30)) * 0xBF58476D1CE4E5B9u;
+    z = (z ^ (z >> 27)) * 0x94D049BB133111EBu;
+    return (size_t)((z ^ (z >> 31)) % bound);
+}
+
+static uint8_t *allocate(size_t length)
+{
+    uint8_t *bytes = (uint8_t *)malloc(length);
+    if (!bytes && length > 0) {
+        fputs("stress: out of memory\n", stderr);
+        exit(2);
+    }
+    return bytes;
+}
+
+static volatile unsigned seen[256];
+
+/* valgrind reports a byte that was never set once it is used as an index. */
+static void look_at(uint8_t byte)
+{
+    seen[byte] = seen[byte] + 1;
+}
+
+/* Appends a record with the right count and checksum. */
+static void put_record(struct text *text, char kind, size_t width, uint64_t address, size_t count)
+{
+    unsigned sum = (unsigned)(width + count + 1);
+    char *at = (char *)text->bytes + text->length;
+
+    at += sprintf(at, "S%c%02X", kind, sum);
+    for (size_t i = 0; i < width + count; i++) {
+        unsigned byte = i < width ? (unsigned)(address >> 8 * (width - 1 - i)) & 0xFF : (unsigned)draw(256);
+        at += sprintf(at, draw(2) ? "%02X" : "%02x", byte);
+        sum += byte;
+    }
+    at += sprintf(at, "%02X%s", ~sum & 0xFF, draw(3) ? "\n" : "\r\n");
+    text->length = (size_t)((uint8_t *)at - text->bytes);
+}
+
+/* Appends a data record near the window, seldom of another width or at its width's end. */
+static void put_data(struct text *text, size_t width, const struct window *window)
+{
+    size_t own = draw(20) ? width : 2 + draw(3);
+    uint64_t reach = (uint64_t)1 << 8 * own;
+    uint64_t address = window->base + draw(window->length + 1);
+    size_t count = draw(10) ? draw(6) : draw(255 - own);
+
+    address = draw(12) ? address % reach : reach - 1 - draw(4);
+    put_record(text, (char)('0' + own - 1), own, address, count);
+}
+
+/* Records that fit together, and in the window, in most cases. */
+static void draw_text(struct text *text, const struct window *window)
+{
+    size_t records = draw(5);
+    size_t width = 2 + draw(3);
+
+    while (width < 4 && window->base >> 8 * width && draw(8))
+        width++;
+    text->length = 0;
+    if (draw(2))
+        put_record(text, '0', 2, draw(65536), draw(12) ? draw(8) : 252);
+    for (size_t i = 0; i < records; i++)
+        put_data(text, width, window);
+    if (draw(3) == 0)
+        put_record(text, '5', 2, draw(4) ? records : draw(65536), 0);
+    if (draw(20) == 0)
+        put_record(text, '0', 2, 0, 3);
+    if (draw(16))
+        put_record(text, (char)('0' + 11 - width), width, draw(2) * window->base, 0);
+    if (draw(20) == 0)
+        put_data(text, width, window);
+}
+
+static void read_file(const char *name, struct text *text)
+{
+    FILE *file = fopen(name, "rb");
+    if (!file) {
+        perror(name);
+        exit(2);
+    }
+    text->length = fread(text->bytes, 1, LONGEST_FILE, file);
+    fclose(file);
+}
+
+/* Changes, puts in or takes out a character, or cuts the text. What is put in may make a record too long. */
+static void mutate(struct text *text)
+{
+    static const char characters[] = "S0123456789ABCDEFabcdef\r\n xg";
+    size_t place = draw(text->length + 1);
+    uint8_t *at = text->bytes + place;
+    size_t behind = text->length - place;
+    size_t more = draw(4) ? 1 : 500 + draw(30);
+    int character = characters[draw(sizeof characters)];
+
+    switch (draw(4)) {
+    case 0:
+        memset(at, character, behind > 0);
+        break;
+    case 1:
+        memmove(at + more, at, behind);
+        memset(at, character, more);
+        text->length += more;
+        break;
+    case 2:
+        memmove(at, at + 1, behind - (behind > 0));
+        text->length -= behind > 0;
+        break;
+    default:
+        text->length = place;
+    }
+}
+
+static struct window draw_window(void)
+{
+    static const uint32_t bases[] = {0, 0, 0, 0xFFF0, 0x10000, 0xFFFFF8, 0xFFFFFF00, 0xFFFFFFFF};
+    struct window window = {bases[draw(8)], NULL, 0, NULL, 0, NULL};
+
+    window.length = draw(3) ? draw(256) : draw(3);
+    if (window.base == 0 && draw(3) == 0)
+        window.length = 65536;
+    window.marks_length = draw(25) ? window.length : draw(256);
+    window.memory = allocate(window.length);
+    window.marks = allocate(window.marks_length);
+    if (draw(2)) {
+        window.before = allocate(window.length);
+        for (size_t i = 0; i < window.length; i++)
+            window.memory[i] = window.before[i] = (uint8_t)i;
+    }
+    return window;
+}
+
+static void free_window(struct window *window)
+{
+    free(window->memory);
+    free(window->marks);
+    free(window->before);
+}
+
+static uint32_t load(struct window *window, const struct text *text)
+{
+    uint8_t *exact = allocate(text->length);
+    if (text->length > 0)
+        memcpy(exact, text->bytes, text->length);
+    uint32_t row = srec_load(exact, text->length, window->base, window->memory, window->length,
+                             window->marks, window->marks_length);
+    free(exact);
+    return row;
+}
+
+/* Every mark is set, every addressed cell too, and all other cells are as before. */
+static void check_window(const struct window *window, uint32_t row)
+{
+    CHECK(row <= LAST_ROW);
+    for (size_t i = 0; i < window->marks_length; i++) {
+        look_at(window->marks[i]);
+        CHECK(window->marks[i] == 0 || (row == 0 && window->marks[i] == 1));
+    }
+    for (size_t i = 0; i < window->length; i++) {
+        if (row == 0 && window->marks[i] == 1)
+            look_at(window->memory[i]);
+        else if (window->before)
+            CHECK(window->memory[i] == window->before[i]);
+    }
+}
+
+/* Writes a window into an output of `room` bytes, which must come to `length`. */
+static struct text write_once(const struct window *window, const struct text *header, size_t room, size_t length)
+{
+    struct text out = {allocate(room), 0};
+    out.length = srec_write(window->base, window->memory, window->length, window->marks, window->marks_length,
+                            header->bytes, header->length, 0x1234, out.bytes, room);
+    CHECK(out.length == length || length == SIZE_MAX);
+    CHECK(out.length <= room);
+    for (size_t i = 0; i < out.length; i++)
+        look_at(out.bytes[i]);
+    return out;
+}
+
+/* Writes with more room than needed, as much as needed and one byte less. The text is the caller's to free. */
+static struct text write_thrice(const struct window *window)
+{
+    struct text header = {NULL, draw(3) ? 0 : draw(253)};
+    size_t cells = 0;
+
+    header.bytes = allocate(header.length);
+    for (size_t i = 0; i < header.length; i++)
+        header.bytes[i] = (uint8_t)draw(256);
+    for (size_t i = 0; i < window->length; i++)
+        cells += window->marks[i];
+    struct text wide = write_once(window, &header, 37 + 2 * header.length + 17 * cells, SIZE_MAX);
+    struct text exact = write_once(window, &header, wide.length, wide.length);
+    CHECK(exact.length >= 33 && memcmp(wide.bytes, exact.bytes, exact.length) == 0);
+    free(wide.bytes);
+    if (exact.length > 0)
+        free(write_once(window, &header, exact.length - 1, 0).bytes);
+    free(header.bytes);
+    return exact;
+}
+
+/* Writes an accepted window and loads the text into a fresh one, which must come out alike. */
+static void check_again(const struct window *window)
+{
+    struct text text = write_thrice(window);
+    struct window again = *window;
+
+    again.memory = allocate(again.length);
+    again.marks = allocate(again.marks_length);
+    again.before = NULL;
+    CHECK(load(&again, &text) == 0);
+    check_window(&again, 0);
+    for (size_t i = 0; i < window->length; i++) {
+        CHECK(again.marks[i] == window->marks[i]);
+        CHECK(window->marks[i] == 0 || again.memory[i] == window->memory[i]);
+    }
+    free_window(&again);
+    free(text.bytes);
+}
+
+/* Runs one case and gives the row. */
+static uint32_t run_case(char **files, size_t number)
+{
+    static uint8_t scratch[ROOM];
+    struct text text = {scratch, 0};
+    struct window window = draw_window();
+
+    if (number > 0 && draw(3) == 0)
+        read_file(files[draw(number)], &text);
+    else
+        draw_text(&text, &window);
+    for (size_t changes = draw(2) * draw(3); changes > 0; changes--)
+        mutate(&text);
+    uint32_t row = load(&window, &text);
+    check_window(&window, row);
+    if (row == 0)
+        check_again(&window);
+    free_window(&window);
+    return row;
+}
+
+int main(int argc, char **argv)
+{
+    unsigned rows[LAST_ROW + 1] = {0};
+    unsigned long cases = argc > 1 ? strtoul(argv[1], NULL, 10) : 0;
+
+    if (cases == 0) {
+        fputs("usage: stress CASES FILE...\n", stderr);
+        return 2;
+    }
+    for (unsigned long i = 0; i < cases && failures == 0; i++) {
+        uint32_t row = run_case(argv + 2, (size_t)(argc - 2));
+        if (row <= LAST_ROW)
+            rows[row]++;
+        if (failures > 0)
+            printf("case %lu\n", i);
+    }
+    for (unsigned row = 0; row <= LAST_ROW; row++) {
+        printf("%s%u: %u", row ? ", " : "rows ", row, rows[row]);
+        CHECK(rows[row] > 0);
+    }
+    printf("\n");
+    return failures != 0;
+}
