@@ -19,10 +19,13 @@ use Rattle.srec.specs.declared.Loaded.{Loaded}
 use Rattle.srec.specs.Lines.{lines}
 use Rattle.srec.specs.Scan.{plan}
 use Rattle.srec.specs.Load.{load, headerOf, loadAnswer, memoryAfter, marksAfter}
-use Rattle.load.specs.declared.Checked.{Checked}
-use Rattle.load.specs.declared.Checked.the-variants.{Refused, Accepted}
-use Rattle.load.specs.Passes.{Told, Accepts, firstHeader, outcome}
-use Rattle.load.proofs.HeaderLaws.{header-first}
+use Rattle.checker.specs.declared.Checked.{Checked}
+use Rattle.checker.specs.declared.Checked.the-variants.{Refused, Accepted}
+use Rattle.checker.specs.Answers.{Told}
+use Rattle.store.specs.Stores.{Accepts}
+use Rattle.store.specs.Headers.{firstHeader}
+use Rattle.load.specs.Outcomes.{outcome}
+use Rattle.store.proofs.HeaderLaws.{header-first}
 
 -- what a load with this outcome answers and leaves
 abbrev pub Answered : List ℕ → List ℕ → Outcome → Loaded → List ℕ → List ℕ → Type 0

@@ -1,0 +1,3 @@
+pub mod JudgeLaws
+pub mod EndLaws
+pub mod CheckLaws

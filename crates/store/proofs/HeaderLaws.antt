@@ -1,0 +1,134 @@
+-- The header's array, and the header of an accepted text.
+use mathlib.Core.Path.{_≡_, refl, sym, ap, ap₂, _∙_, subst}
+use Prim.Native.Nat.{ℕ, zero, suc, _+_, _-_, _*_, _/_, _≤_, _<_}
+use native.Mathlib.Nat.{zero-add, suc-add}
+use native.Mathlib.Numerals.{add-one}
+use native.Mathlib.Omega.{arith}
+use mathlib.Core.List.{List, [], _∷_, _++_}
+use lib.ListN.{length, getD, take, drop, set, replicate}
+use lib.Seq.{drop-cons, set-at, append-snoc, take-suc, take-all, length-take-le}
+use mathlib.Core.Bool.{true, false, cond}
+use mathlib.Core.Option.{some}
+use Rattle.window.specs.Plans.{Summary, refusal}
+use Rattle.window.specs.Plans.Plan.{done}
+use Rattle.window.proofs.PlanLaws.{final}
+use Rattle.hex.specs.Digits.{byteOf, bytes}
+use Rattle.hex.proofs.TestLaws.{by-test}
+use Rattle.srec.specs.declared.Header.{Header}
+use Rattle.srec.specs.Lines.{Line, lines}
+use Rattle.srec.specs.Kinds.{Kind, kindOf, typeOf}
+use Rattle.srec.specs.Kinds.Kind.{S0, Data, S5, End}
+use Rattle.srec.specs.Reading.{Read, read}
+use Rattle.srec.specs.Reading.Read.{good, bad}
+use Rattle.srec.specs.Scan.{start, row8, row9, row10, row11, more, moreData, judge, judged, ended, located, onward, scan, plan}
+use Rattle.srec.specs.Load.{headerOf}
+use Rattle.srec.proofs.ContentLaws.{no-stop, known-header}
+use Rattle.reader.specs.declared.Record.the-variants.{Good, Bad}
+use Rattle.reader.specs.Records.{asRecord}
+use Rattle.reader.proofs.FieldLaws.{Fields, Got}
+use Rattle.reader.proofs.KindLaws.{Known, known-kind}
+use Rattle.store.specs.Headers.{s0Data, firstHeader}
+use Rattle.hex.proofs.PairLaws.{byte-at, length-bytes}
+
+-- ---- the array as a loop fills it
+
+abbrev pub zeros : List ℕ
+zeros = replicate 252 0
+
+-- how many bytes characters stand for
+half : (cs : List ℕ) → length (bytes cs) ≡ length cs / 2
+half [] = refl
+half (c ∷ []) = refl
+half (c ∷ d ∷ cs) = omega (arith, half cs)
+
+pub pad-turn : (cs : List ℕ) (k : ℕ) → k < length cs / 2 → length cs ≤ 504
+    → set (take k (bytes cs) ++ drop k zeros) k (byteOf (getD cs (2 * k) 0) (getD cs (2 * k + 1) 0)) ≡ take (k + 1) (bytes cs) ++ drop (k + 1) zeros
+pad-turn cs k h l =
+    let n : length (take k (bytes cs)) ≡ k = length-take-le k (bytes cs) (omega (arith, half cs)) in
+    rw (drop-cons zeros k 0 (omega arith), add-one k, take-suc (bytes cs) k 0 (omega (arith, half cs)), byte-at k cs (omega arith))
+    (set-at (take k (bytes cs)) (getD zeros k 0) (drop (suc k) zeros) (byteOf (getD cs (2 * k) 0) (getD cs (2 * k + 1) 0)) k n
+    ∙ sym (append-snoc (take k (bytes cs)) (byteOf (getD cs (2 * k) 0) (getD cs (2 * k + 1) 0)) (drop (suc k) zeros)))
+
+drop-zeros : (n k : ℕ) → drop n (replicate {A = ℕ} (n + k) 0) ≡ replicate k 0
+drop-zeros zero k = ap (λ (j : ℕ). replicate j 0) (zero-add k)
+drop-zeros (suc n) k = ap (λ (j : ℕ). drop (suc n) (replicate {A = ℕ} j 0)) (suc-add n k) ∙ drop-zeros n k
+
+pub pad-end : (cs : List ℕ) (k : ℕ) → k ≡ length cs / 2 → length cs ≤ 504
+    → take k (bytes cs) ++ drop k zeros ≡ bytes cs ++ replicate (252 - length (bytes cs)) 0
+pad-end cs k e h =
+    let n : k ≡ length (bytes cs) = e ∙ sym (half cs) in
+    let m : length (bytes cs) + (252 - length (bytes cs)) ≡ 252 = omega (arith, half cs) in
+    rw n (ap₂ {B = List ℕ} _++_ (take-all (length (bytes cs)) (bytes cs) (omega arith))
+    (ap (λ (j : ℕ). drop (length (bytes cs)) (replicate {A = ℕ} j 0)) (sym m) ∙ drop-zeros (length (bytes cs)) (252 - length (bytes cs))))
+
+-- ---- the header that a record holds
+
+sort-s0 : (c : ℕ) → kindOf c ≡ some S0 → c ≡ 48
+sort-s0 c e = let t : Known c 2 = known-kind c S0 e in sym (t .type-is) ∙ ap typeOf (same (sym (t .is) ∙ e))
+  where
+    same : {x y : Kind} → some x ≡ some y → x ≡ y
+    same q = cc
+
+no-header : (chars : List ℕ) → s0Data (read chars) ≡ [] → record { len = 0; bytes = zeros } ≡ headerOf (s0Data (read chars))
+no-header chars e = rw e refl
+
+pub header-bad : (chars : List ℕ) (place reason at : ℕ) → Bad reason at ≡ asRecord place (read chars) → record { len = 0; bytes = zeros } ≡ headerOf (s0Data (read chars))
+header-bad chars place reason at q = no-header chars (go (read chars) q)
+  where
+    go : (r : Read) → Bad reason at ≡ asRecord place r → s0Data r ≡ []
+    go (good k a ds) e = absurd (let z : _≡_ {A = ℕ} 0 1 = cc in omega arith)
+    go (bad f) e = refl
+
+pub header-other : (chars : List ℕ) (kind a n : ℕ) → Got chars kind a n → (kind ≡ 48 → ⊥) → record { len = 0; bytes = zeros } ≡ headerOf (s0Data (read chars))
+unfolding kindOf
+header-other chars kind a n r h = no-header chars (ap s0Data (r .is) ∙ go (r .k) (r .known-is))
+  where
+    go : (k : Kind) → kindOf kind ≡ some k → s0Data (good k a (r .ds)) ≡ []
+    go S0 e = absurd (h (sort-s0 kind e))
+    go (Data w) e = refl
+    go S5 e = refl
+    go (End w) e = refl
+
+pub header-s0 : (chars : List ℕ) (kind a n : ℕ) → Got chars kind a n → kind ≡ 48 → (bs : List ℕ)
+    → bs ≡ headerOf (bytes (take (8 + 2 * n - 8) (drop 8 chars))) .bytes → record { len = n; bytes = bs } ≡ headerOf (s0Data (read chars))
+unfolding kindOf
+header-s0 chars kind a n r c bs q =
+    let k : r .k ≡ S0 = same (sym (r .known-is) ∙ ap kindOf c) in
+    let is : read chars ≡ good S0 a (r .ds) = r .is ∙ ap (λ (x : Kind). good x a (r .ds)) k in
+    let f : Fields chars S0 a (r .ds) = subst (λ (x : Kind). Fields chars x a (r .ds)) k (r .fields) in
+    let e : 8 + 2 * n - 8 ≡ 2 * length (r .ds) = omega (arith, r .len) in
+    let d : bytes (take (8 + 2 * n - 8) (drop 8 chars)) ≡ r .ds = ap (λ (j : ℕ). bytes (take j (drop 8 chars))) e ∙ sym (f .data-is) in
+    let b : bs ≡ headerOf (r .ds) .bytes = q ∙ ap (λ (x : List ℕ). headerOf x .bytes) d in
+    (λ i. record { len = sym (r .len) i; bytes = b i }) ∙ ap (λ (x : Read). headerOf (s0Data x)) (sym is)
+  where
+    same : {x y : Kind} → some x ≡ some y → x ≡ y
+    same e = cc
+
+-- ---- the header of an accepted text
+
+module _ (t : Summary) where
+  first-read : (size at : ℕ) (ls : List Line) (r : Read)
+      → final (onward 1 at (λ u. scan size u ls) (λ u e. ended u e ls) (judged start r)) ≡ done t → t .header ≡ s0Data r
+  unfolding judge row8
+  first-read size at ls (bad f) q = absurd (no-stop t (located 1 at f) q)
+  first-read size at ls (good S0 a ds) q = known-header t size ls (more start ds) (omega arith) q
+  first-read size at ls (good (Data w) a ds) q =
+      by-test (row9 start w) (λ b. absurd (no-stop t (refusal 9 1 (at + 0)) (rw b at q)))
+      (λ b. by-test (row11 w a (length ds)) (λ v. absurd (no-stop t (refusal 11 1 (at + 0)) (rw (b, v) at q)))
+      (λ v. known-header t size ls (moreData start w (length ds)) (omega arith) (rw (b, v) at q)))
+  first-read size at ls (good S5 a ds) q =
+      by-test (row10 start a) (λ b. absurd (no-stop t (refusal 10 1 (at + 0)) (rw b at q))) (λ b. known-header t size ls (more start []) (omega arith) (rw b at q))
+  first-read size at ls (good (End w) a ds) q =
+      by-test (row9 start w) (λ b. absurd (no-stop t (refusal 9 1 (at + 0)) (rw b at q))) (λ b. last ls (rw b at q))
+    where
+      last : (ls : List Line) → final (ended (more start []) a ls) ≡ done t → t .header ≡ []
+      last [] e = let k : record { header = []; entry = a; records = 0; cells = 0 } ≡ t = cc in ap (λ (x : Summary). x .header) (sym k)
+      last (l ∷ ls) e = absurd (no-stop t (refusal 2 2 (l .place)) e)
+
+  pub header-first : (text : List ℕ) → final (plan text) ≡ done t → t .header ≡ firstHeader (lines 0 text)
+  unfolding plan
+  header-first text q = go (lines 0 text) q
+    where
+      go : (ls : List Line) → final (scan (length text) start ls) ≡ done t → t .header ≡ firstHeader ls
+      go [] e = absurd (no-stop t (refusal 14 0 (length text)) e)
+      go (l ∷ ls) e = first-read (length text) (l .place) ls (read (l .chars)) e

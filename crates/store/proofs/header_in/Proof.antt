@@ -1,0 +1,68 @@
+-- `header_in` meets its contract: no S0 has no header, and an S0 its data bytes.
+use mathlib.Core.Path.{sym, _∙_}
+use native.Mathlib.Omega.{arith}
+use lib.ListN.{length-take}
+use Rattle.reader.proofs.FieldLaws.{Got, got}
+use Rattle.store.proofs.HeaderLaws.{header-bad, header-other, header-s0}
+use borrow.Author.Needs.{needs}
+use Rattle.store.proofs.header_in.Statement.{statement}
+use Rattle.store.proofs.header_in.Tie as tie
+
+-- what the record says
+got-at : (c : tie.After-answer) → Got (c .before .before .before .before .args .chars .now) (c .answer .given .0 .0) (c .answer .given .0 .1 .0) (c .answer .given .0 .1 .1 .0)
+got-at c = got _ _ _ _ _ (sym (c .answer .given .1) ∙ c .before .before .read-record .ensures)
+
+read-record-requires : tie.Need-read-record-requires
+read-record-requires c κs = search needs
+
+enum-known-answer : tie.Need-enum-known-answer
+enum-known-answer c = search needs
+
+enum-told : tie.Need-enum-told
+enum-told c = search needs
+
+returns : tie.Need-returns
+returns c = header-bad _ _ _ _ (sym (c .enum-told .given .1) ∙ c .before .before .read-record .ensures)
+
+returns-2 : tie.Need-returns-2
+returns-2 c = header-other _ _ _ _ (got-at (c .before .before)) (c .if1 .taken)
+
+mul-end : tie.Need-mul-end
+mul-end c = let r = got-at (c .before .before) in record { fits = omega (arith, r .small .1) }
+
+add-end : tie.Need-add-end
+add-end c = let r = got-at (c .before .before) in record { fits = omega (arith, r .small .1) }
+
+sub-padded : tie.Need-sub-padded
+sub-padded c = search needs
+
+part-padded-start : tie.Need-part-padded-start
+part-padded-start c = search needs
+
+part-padded-end : tie.Need-part-padded-end
+part-padded-end c = let r = got-at (c .before .before) in omega (arith, r .fields .long, r .small .2, r .len)
+
+padded-requires : tie.Need-padded-requires
+padded-requires c κs =
+    let r = got-at (c .before .before .before) in
+    (c .before .before .before .before .before .before .before .pre, rw length-take (omega (arith, r .small .1)))
+
+returns-3 : tie.Need-returns-3
+returns-3 c = header-s0 _ _ _ _ (got-at (c .before .before .before .before)) (c .before .before .if1 .left) _ (c .padded .ensures)
+
+pub header-in-spec : {M : Type 1} → statement M
+header-in-spec =
+    tie.close
+    (tie.spec
+    read-record-requires
+    enum-known-answer
+    enum-told
+    returns
+    returns-2
+    mul-end
+    add-end
+    sub-padded
+    part-padded-start
+    part-padded-end
+    padded-requires
+    returns-3)

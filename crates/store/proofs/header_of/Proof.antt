@@ -1,0 +1,55 @@
+-- `header_of` meets its contract: the first record's header, or none.
+use mathlib.Core.Path.{refl, sym, ap, _∙_}
+use Prim.Native.Nat.{zero-le}
+use native.Mathlib.Omega.{arith}
+use Rattle.reader.proofs.WalkLaws.{Next, next-is, next-none}
+use Rattle.srec.specs.Load.{headerOf}
+use Rattle.store.specs.Headers.{firstHeader}
+use borrow.Author.Needs.{needs}
+use Rattle.store.proofs.header_of.Statement.{statement}
+use Rattle.store.proofs.header_of.Tie as tie
+
+-- the first record
+next-at : (c : tie.After-found) → Next (c .before .before .before .before .args .text .now) 0 (c .found .given .0 .0) (c .found .given .0 .1 .0)
+next-at c = next-is _ _ _ _ zero-le (sym (c .found .given .1) ∙ c .before .before .next-record .ensures)
+
+next-record-requires : tie.Need-next-record-requires
+next-record-requires c κs = search needs
+
+enum-known-found : tie.Need-enum-known-found
+enum-known-found c = search needs
+
+enum-told : tie.Need-enum-told
+enum-told c = search needs
+
+returns : tie.Need-returns
+returns c = sym (ap (λ ls. headerOf (firstHeader ls)) (next-none (c .before .before .before .before .args .text .now) 0 (sym (c .enum-told .given .1) ∙ c .before .before .next-record .ensures)))
+
+sub-header-in : tie.Need-sub-header-in
+sub-header-in c = omega (arith, next-at (c .before) .some-chars)
+
+part-header-in-start : tie.Need-part-header-in-start
+part-header-in-start c = omega (arith, next-at (c .before) .some-chars, next-at (c .before) .high)
+
+part-header-in-end : tie.Need-part-header-in-end
+part-header-in-end c = omega (arith, next-at (c .before) .high)
+
+header-in-requires : tie.Need-header-in-requires
+header-in-requires c κs = search needs
+
+returns-2 : tie.Need-returns-2
+returns-2 c = c .header-in .ensures ∙ sym (ap (λ ls. headerOf (firstHeader ls)) (next-at (c .before .before .before) .is))
+
+pub header-of-spec : {M : Type 1} → statement M
+header-of-spec =
+    tie.close
+    (tie.spec
+    next-record-requires
+    enum-known-found
+    enum-told
+    returns
+    sub-header-in
+    part-header-in-start
+    part-header-in-end
+    header-in-requires
+    returns-2)
