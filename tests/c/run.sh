@@ -30,23 +30,24 @@ check() { # TITLE COMMAND..: runs the command and shows what it printed if it fa
     fi
 }
 
-compile() { # NAME SOURCE FLAGS..: as C to bin/NAME and as C++ to bin/NAME++.
-    name=$1 source=$2
-    shift 2
+compile() { # SOURCE: as C to NAME, as C++ to NAME++, and as C with the compiler's own run-time checks to NAME-checked.
+    name=$(basename "$1" .c)
     check "$name compiles as C" \
-        gcc -std=c11 -Wall -Wextra -Werror -O2 -g "$@" -I "$include" "$source" "$library" -o "$bin/$name"
+        gcc -std=c11 -Wall -Wextra -Werror -O2 -g -I "$include" "$1" "$library" -o "$bin/$name"
     check "$name compiles as C++" \
-        g++ -std=c++17 -Wall -Wextra -Werror -O2 -g "$@" -I "$include" -x c++ "$source" -x none "$library" -o "$bin/$name++"
+        g++ -std=c++17 -Wall -Wextra -Werror -O2 -g -I "$include" -x c++ "$1" -x none "$library" -o "$bin/$name++"
+    check "$name compiles with run-time checks" \
+        gcc -std=c11 -Wall -Wextra -Werror -O1 -g -fsanitize=address,undefined -fno-sanitize-recover=all \
+        -I "$include" "$1" "$library" -o "$bin/$name-checked"
 }
 
-watched() { # PROGRAM ARGUMENTS..: exit status 9 if it touches what it should not.
-    program=$1
+watched() { # NAME ARGUMENTS..: valgrind sees the library too, the compiler's checks only the C around it.
+    program=$bin/$1
     shift
-    # Without valgrind the programs were compiled with checks of their own.
-    if [ "$valgrind" = yes ]; then
-        valgrind --error-exitcode=9 -q "$bin/$program" "$@"
+    if command -v valgrind >/dev/null 2>&1; then
+        valgrind --error-exitcode=9 -q "$program" "$@"
     else
-        "$bin/$program" "$@"
+        "$program-checked" "$@"
     fi
 }
 
@@ -65,43 +66,38 @@ gives() { # STATUS OUTPUT WORDS ARGUMENTS..: what the example must give; no word
     fi
 }
 
-valgrind=no flags=-fsanitize=address,undefined
-if command -v valgrind >/dev/null 2>&1; then
-    valgrind=yes flags=
-else
-    echo "no valgrind: the programs are compiled with $flags"
-fi
-for name in words empty stress; do
-    compile "$name" "$root/tests/c/$name.c" $flags
+for source in "$root"/tests/c/*.c "$examples/canonical.c"; do
+    compile "$source"
 done
-compile huge "$root/tests/c/huge.c"
-compile canonical "$examples/canonical.c" $flags
 
-for program in words words++ empty empty++; do
-    check "$program" watched "$program"
+command -v valgrind >/dev/null 2>&1 || echo "no valgrind here: 'watched' means the compiler's run-time checks"
+for name in words empty; do
+    check "$name, watched" watched "$name"
+    check "$name, as C++" "$bin/$name++"
+    check "$name, with run-time checks" "$bin/$name-checked"
 done
 check "huge" "$bin/huge"
-check "stress, $cases cases" watched stress "$cases" "$examples"/*.srec
+check "stress, watched, $cases cases" watched stress "$cases" "$examples"/*.srec
 cat "$bin/log"
-check "stress++, ten times as many, not watched" "$bin/stress++" "${cases}0" "$examples"/*.srec
+check "stress, with run-time checks, ${cases}0 cases" "$bin/stress-checked" "${cases}0" "$examples"/*.srec
 
 sample=$examples/sample.srec
 canonical=$examples/sample.canonical
 nothing=/dev/null
 outside='row 12: some data lies outside the window'
-check "example: sample" gives 0 "$canonical" '' "$sample"
-check "example: its own output" gives 0 "$canonical" '' "$canonical"
-check "example: a larger window" gives 0 "$canonical" '' "$sample" 0 0x12345
-check "example: a base too high" gives 1 $nothing "$outside" "$sample" 1
-check "example: a window too short" gives 1 $nothing "$outside" "$sample" 0x0 65535
-check "example: a window of no cells" gives 1 $nothing "$outside" "$sample" 0 0
-check "example: a window past 2^32" gives 1 $nothing 'row 1: ' "$sample" 0xFFFFFFFF 2
-check "example: lost bit" gives 1 $nothing 'row 13: a cell is addressed twice' "$examples/lost-bit.srec"
-check "example: no text" gives 1 $nothing 'row 14: there is no terminator' /dev/null
-check "example: no argument" gives 2 $nothing 'usage: '
-check "example: no number" gives 2 $nothing 'usage: ' "$sample" -1
-check "example: a number too large" gives 2 $nothing 'usage: ' "$sample" 0x100000000
-check "example: no file" gives 2 $nothing 'No such file' "$bin/none"
+check "example, sample" gives 0 "$canonical" '' "$sample"
+check "example, its own output" gives 0 "$canonical" '' "$canonical"
+check "example, a larger window" gives 0 "$canonical" '' "$sample" 0 0x12345
+check "example, a base too high" gives 1 $nothing "$outside" "$sample" 1
+check "example, a window too short" gives 1 $nothing "$outside" "$sample" 0x0 65535
+check "example, a window of no cells" gives 1 $nothing "$outside" "$sample" 0 0
+check "example, a window past 2^32" gives 1 $nothing 'row 1: ' "$sample" 0xFFFFFFFF 2
+check "example, lost bit" gives 1 $nothing 'row 13: a cell is addressed twice' "$examples/lost-bit.srec"
+check "example, no text" gives 1 $nothing 'row 14: there is no terminator' /dev/null
+check "example, no argument" gives 2 $nothing 'usage: '
+check "example, no number" gives 2 $nothing 'usage: ' "$sample" -1
+check "example, a number too large" gives 2 $nothing 'usage: ' "$sample" 0x100000000
+check "example, no file" gives 2 $nothing 'No such file' "$bin/none"
 
 echo "$passed passed, $failed failed"
 [ "$failed" -eq 0 ]

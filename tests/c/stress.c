@@ -77,10 +77,12 @@ static void put_data(struct text *text, size_t width, const struct window *windo
 {
     size_t own = draw(20) ? width : 2 + draw(3);
     uint64_t reach = (uint64_t)1 << 8 * own;
-    uint64_t address = window->base + draw(window->length + 1);
+    size_t index = draw(window->length + 1);
+    uint64_t address = draw(20) ? (window->base + (uint64_t)index) % reach : reach - 1 - draw(4);
     size_t count = draw(10) ? draw(6) : draw(255 - own);
 
-    address = draw(12) ? address % reach : reach - 1 - draw(4);
+    if (draw(6) && count > window->length - index)
+        count = window->length - index;
     put_record(text, (char)('0' + own - 1), own, address, count);
 }
 
