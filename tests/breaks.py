@@ -1,11 +1,14 @@
 #!/usr/bin/env python3
-"""Breaks a library on purpose, once for each tests/breaks/NAME.edit, and sees that tests/compare or tests/c notices.
+"""Breaks things on purpose, once for each tests/breaks/KIND/NAME.edit, and sees that the tests notice.
 
     python3 tests/breaks.py [NAME...]
 
-The library is tests/second under the face of include/srec.h (breaks/face.rs), so no archive and no prover is needed.
-An edit names a file and replaces text that stands there exactly once. With no edit nothing may be noticed. tests/c is
-asked only if tests/compare notices nothing. One line an edit; the last line is 'N passed, M failed'."""
+An edit of kind 'library' breaks a library: tests/second under the face of include/srec.h (breaks/library/face.rs), so no
+archive and no prover is needed. tests/compare must notice, or tests/c where that does not. An edit of kind 'answers' breaks
+tests/second itself in what the C face does not show; tests/compare must notice that by way of the program vectors, which
+`rt check vectors` builds (and `rt staticlib capi` the archive that tests/compare links). An edit names a file and replaces
+text that stands there exactly once. With no edit nothing may be noticed. One line an edit; the last line is 'N passed, M
+failed'."""
 
 import os
 import re
@@ -17,13 +20,12 @@ from pathlib import Path
 
 TESTS = Path(__file__).resolve().parent
 BREAKS = TESTS / "breaks"
-SOURCES = {
-    "reading.rs": TESTS / "second" / "src" / "reading.rs",
-    "face.rs": BREAKS / "face.rs",
-    "srec.h": TESTS.parent / "include" / "srec.h",
-}
+TARGET = TESTS.parent / "target"
+READING = TESTS / "second" / "src" / "reading.rs"
+SOURCES = [READING, BREAKS / "library" / "face.rs", TESTS.parent / "include" / "srec.h"]
 # fewer than in the usual runs: what is wrong is noticed soon
-FEWER = {"COMPARE_CASES": "20000", "STRESS_CASES": "500"}
+SEED, CASES = "1", "20000"
+STRESS = {"STRESS_CASES": "500"}
 
 
 def read_edit(path):
@@ -35,24 +37,18 @@ def read_edit(path):
     return [line[len(key) :] for line, key in zip(lines, keys)]
 
 
-def build(folder, edit):
-    """Writes libcapi.a and srec.h, edited, to a folder."""
-    for name, source in SOURCES.items():
-        shutil.copy(source, folder / name)
-    if edit:
-        name, old, new = read_edit(edit)
-        text = (folder / name).read_text(encoding="utf-8")
-        if text.count(old) != 1:
-            sys.exit(f"{edit}: its old text stands in {name} {text.count(old)} times")
-        (folder / name).write_text(text.replace(old, new), encoding="utf-8")
-    command = "rustc --edition 2021 -O -A warnings --crate-name capi --crate-type staticlib face.rs -o libcapi.a"
-    subprocess.run(command.split(), cwd=folder, check=True)
+def apply(edit, folder):
+    """Carries out an edit on the file of a folder that it names."""
+    name, old, new = read_edit(edit)
+    text = (folder / name).read_text(encoding="utf-8")
+    if text.count(old) != 1:
+        sys.exit(f"{edit}: its old text stands in {name} {text.count(old)} times")
+    (folder / name).write_text(text.replace(old, new), encoding="utf-8")
 
 
-def failures(command, folder):
+def failures(command, places):
     """The titles of the checks that fail, or the last line if the run breaks off."""
-    places = {"SREC_LIB_DIR": str(folder), "SREC_INCLUDE_DIR": str(folder)}
-    ran = subprocess.run(command, env={**os.environ, **FEWER, **places}, stdout=subprocess.PIPE, stderr=subprocess.STDOUT)
+    ran = subprocess.run(command, env={**os.environ, **STRESS, **places}, stdout=subprocess.PIPE, stderr=subprocess.STDOUT)
     printed = ran.stdout.decode("utf-8", "replace")
     found = re.findall(r"^FAIL  (.*?)(?:: | \(exit status|$)", printed, re.MULTILINE)
     if ran.returncode and not found:
@@ -60,22 +56,41 @@ def failures(command, folder):
     return found
 
 
-def noticed(folder):
-    """Which checks of which test notice what was built in a folder."""
-    package = str(TESTS / "compare" / "Cargo.toml")
-    compare = ["cargo", "test", "--release", "--offline", "--quiet", "--manifest-path", package]
-    for name, command in (("compare", compare), ("c", ["sh", str(TESTS / "c" / "run.sh")])):
-        found = failures(command, folder)
+def cargo(tests, test):
+    package = str(tests / "compare" / "Cargo.toml")
+    return ["cargo", "test", "--release", "--offline", "--quiet", "--manifest-path", package, "--test", test, "--", SEED, CASES]
+
+
+def library(edit, folder):
+    """Builds libcapi.a and srec.h, edited, and gives which checks of which test notice."""
+    for source in SOURCES:
+        shutil.copy(source, folder)
+    if edit:
+        apply(edit, folder)
+    command = "rustc --edition 2021 -O -A warnings --crate-name capi --crate-type staticlib face.rs -o libcapi.a"
+    subprocess.run(command.split(), cwd=folder, check=True)
+    places = {"SREC_LIB_DIR": str(folder), "SREC_INCLUDE_DIR": str(folder)}
+    for name, command in (("compare", cargo(TESTS, "compare")), ("c", ["sh", str(TESTS / "c" / "run.sh")])):
+        found = failures(command, places)
         if found:
             return f"{name}: " + "; ".join(found)
     return None
 
 
-def try_edit(edit):
+def answers(edit, folder):
+    """Edits a copy of tests/second and gives what tests/compare says of it."""
+    for name in ("second", "compare"):
+        shutil.copytree(TESTS / name, folder / name, ignore=shutil.ignore_patterns("target"))
+    if edit:
+        apply(edit, folder / "second" / "src")
+    places = {"VECTORS": str(TARGET / "bin" / "vectors"), "SREC_LIB_DIR": str(TARGET / "staticlib")}
+    return "answers" if failures(cargo(folder, "answers"), places) else None
+
+
+def try_edit(kind, edit):
     """Whether an edit is noticed, or nothing is without one."""
     with tempfile.TemporaryDirectory() as folder:
-        build(Path(folder), edit)
-        found = noticed(Path(folder))
+        found = kind(edit, Path(folder))
     good = bool(found) == bool(edit)
     print("ok   " if good else "FAIL ", edit.stem if edit else "no edit", "|", found or "not noticed", flush=True)
     return good
@@ -83,10 +98,12 @@ def try_edit(edit):
 
 def main():
     names = sys.argv[1:]
-    edits = [BREAKS / f"{name}.edit" for name in names] or [None, *sorted(BREAKS.glob("*.edit"))]
-    results = [try_edit(edit) for edit in edits]
+    results = []
+    for kind in (library, answers):
+        edits = [None, *sorted((BREAKS / kind.__name__).glob("*.edit"))]
+        results += [try_edit(kind, edit) for edit in edits if not names or edit and edit.stem in names]
     print(f"{sum(results)} passed, {len(results) - sum(results)} failed")
-    return 0 if all(results) else 1
+    return 0 if results and all(results) else 1
 
 
 if __name__ == "__main__":

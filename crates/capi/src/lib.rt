@@ -4,7 +4,7 @@ ghost use lib.ListN.{length};
 ghost use Rattle.srec.specs.Load.{loadAnswer, memoryAfter, marksAfter};
 ghost use Rattle.srec.specs.Write.{write, writeAnswer, outputAfter};
 ghost use Rattle.load.specs.Outcomes.{outcome};
-ghost use Rattle.write.specs.Walks.{windowOf};
+ghost use Rattle.window.specs.Windows.{windowOf};
 
 // Loads a text into a window: the refusal's number, 0 for accepted.
 #[no_mangle]

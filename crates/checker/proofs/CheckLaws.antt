@@ -28,14 +28,14 @@ use Rattle.reader.specs.declared.Record.the-variants.{Good, Bad}
 use Rattle.reader.specs.Records.{found, asRecord}
 use Rattle.reader.proofs.WalkLaws.{part, Next, next-is}
 use Rattle.reader.proofs.FieldLaws.{Fields, Got, got}
-use Rattle.checker.specs.declared.State.{State}
-use Rattle.checker.specs.declared.Step.{Step}
-use Rattle.checker.specs.declared.Step.the-variants.{Refuse, Pass, Put, Finish}
+use Rattle.judge.specs.declared.State.{State}
+use Rattle.judge.specs.declared.Step.{Step}
+use Rattle.judge.specs.declared.Step.the-variants.{Refuse, Pass, Put, Finish}
 use Rattle.checker.specs.declared.Checked.{Checked}
 use Rattle.checker.specs.declared.Checked.the-variants.{Refused, Accepted}
-use Rattle.checker.specs.Steps.{numbers, stateWith, asStep}
+use Rattle.judge.specs.Steps.{numbers, stateWith, asStep}
 use Rattle.checker.specs.Answers.{Told, unreadAs, endedAs}
-use Rattle.checker.proofs.JudgeLaws.{Grown, Says, judge-says}
+use Rattle.judge.proofs.JudgeLaws.{Grown, Says, judge-says}
 use Rattle.reader.proofs.TurnLaws.{Walk, walk-start, walk-none, walk-refused, walk-pass, walk-ended, walk-store, walk-put}
 
 -- the marks show the image of a walk; the numbers are small, since each record takes its characters
@@ -78,8 +78,8 @@ module _ (text : List ℕ) (base size : ℕ) (marks : List ℕ) (n : State) (at 
   abbrev whole : Outcome
   whole = placed base (blank size) (plan text)
 
-  pub told-14 : (marks′ : List ℕ) → Nothing ≡ found (lines at (drop at text)) → Told whole (Refused (refusal 14 (n .number) (length text))) marks′
-  told-14 marks′ q = tell _ whole marks′ (walk-none text base size (g .img) s at (g .walk) q)
+  pub row-14 : (marks′ : List ℕ) → Nothing ≡ found (lines at (drop at text)) → Told whole (Refused (refusal 14 (n .number) (length text))) marks′
+  row-14 marks′ q = tell _ whole marks′ (walk-none text base size (g .img) s at (g .walk) q)
 
   module _ (from to : ℕ) (x : Next text at from to) where
     -- the characters of the record

@@ -9,7 +9,7 @@ use Rattle.srec.specs.Lines.{Line}
 use Rattle.reader.specs.declared.Found.{Found}
 use Rattle.reader.specs.declared.Found.the-variants.{At, Nothing}
 use Rattle.reader.specs.Records.{found}
-use Rattle.checker.specs.declared.State.{State}
+use Rattle.judge.specs.declared.State.{State}
 use Rattle.checker.specs.declared.Checked.{Checked}
 use Rattle.checker.specs.declared.Checked.the-variants.{Refused, Accepted}
 use Rattle.checker.specs.Answers.{endedAs}

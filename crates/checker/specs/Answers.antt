@@ -9,7 +9,7 @@ use Rattle.window.specs.Plans.Outcome.{refused, accepted}
 use Rattle.srec.specs.Lines.{Line}
 use Rattle.reader.specs.declared.Record.{Record}
 use Rattle.reader.specs.declared.Record.the-variants.{Good, Bad}
-use Rattle.checker.specs.declared.State.{State}
+use Rattle.judge.specs.declared.State.{State}
 use Rattle.checker.specs.declared.Checked.{Checked}
 use Rattle.checker.specs.declared.Checked.the-variants.{Refused, Accepted}
 

@@ -7,7 +7,7 @@ use mathlib.Core.List.{List, _++_}
 use lib.Dec.{lit<}
 use lib.ListN.{length, take, replicate, length-append}
 use Rattle.window.specs.declared.Refusal.{Refusal}
-use Rattle.window.specs.Windows.{Window, row1, row16}
+use Rattle.window.specs.Windows.{Window, row1, row16, windowOf}
 use Rattle.window.specs.Images.{Image}
 use Rattle.window.specs.Plans.{Entry, Summary, Outcome}
 use Rattle.window.specs.Plans.Outcome.{refused, accepted}
@@ -20,7 +20,6 @@ use Rattle.srec.specs.Write.{WriteOutcome, row15, row17, textOf, write, writeAn
 use Rattle.srec.specs.Write.WriteOutcome.{declined, wrote}
 use Rattle.srec.specs.Terms.{loaded, Accepted, writtenAfter}
 use Rattle.srec.proofs.LoadLaws.{accepted-is}
-use Rattle.write.specs.Walks.{windowOf}
 use Rattle.convert.specs.declared.Converted.{Converted}
 use Rattle.convert.specs.declared.Converted.the-variants.{Refused, Text}
 use Rattle.convert.specs.Conversions.{convertedBy, outputBy, converted, outputOf}

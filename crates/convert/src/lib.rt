@@ -2,7 +2,7 @@
 use window::Refusal;
 ghost use mathlib.Core.Path.{_≡_};
 ghost use lib.ListN.{length};
-ghost use Rattle.write.specs.Walks.{windowOf};
+ghost use Rattle.window.specs.Windows.{windowOf};
 ghost use Rattle.convert.specs.Conversions.{converted, outputOf};
 
 // The refusal of the load or of the write, or the length of the canonical text.

@@ -75,13 +75,13 @@ module _ (base : ℕ) (memory marks text cleared : List ℕ) (kept : cleared ≡
   same-length : length cleared ≡ length marks
   same-length = ap length kept ∙ length-replicate (length marks) 0
 
-  pub lengths-differ : (length cleared ≡ length memory → ⊥) → outcome base memory marks text ≡ refused (refusal 1 0 0)
+  pub row-1-lengths : (length cleared ≡ length memory → ⊥) → outcome base memory marks text ≡ refused (refusal 1 0 0)
   unfolding load row1
-  lengths-differ h = rw (ne-eqb (length marks) (length memory) (λ e. h (same-length ∙ e)))
+  row-1-lengths h = rw (ne-eqb (length marks) (length memory) (λ e. h (same-length ∙ e)))
 
-  pub too-high : length cleared ≡ length memory → 4294967296 - base < length memory → outcome base memory marks text ≡ refused (refusal 1 0 0)
+  pub row-1-reach : length cleared ≡ length memory → 4294967296 - base < length memory → outcome base memory marks text ≡ refused (refusal 1 0 0)
   unfolding load row1
-  too-high e h = rw (eq-eqb (length marks) (length memory) (sym same-length ∙ e), lt-ltb (2 ^ 32) (base + length memory) (omega arith))
+  row-1-reach e h = rw (eq-eqb (length marks) (length memory) (sym same-length ∙ e), lt-ltb (2 ^ 32) (base + length memory) (omega arith))
 
   module _ (e : length cleared ≡ length memory) (h : length memory ≤ 4294967296 - base) (b : base < 4294967296) where
     is-placed : outcome base memory marks text ≡ placed base (blank (length memory)) (plan text)

@@ -4,6 +4,7 @@ use srec::Header;
 use srec::Loaded;
 use window::Refusal;
 ghost use mathlib.Core.Path.{_≡_};
+ghost use Rattle.window.specs.Plans.{refusal};
 ghost use Rattle.window.specs.Plans.Outcome.{refused};
 ghost use Rattle.srec.specs.Load.{loadAnswer, memoryAfter, marksAfter};
 ghost use Rattle.load.specs.Outcomes.{outcome};
@@ -21,6 +22,19 @@ fn refused_answer(refusal: Refusal) -> Loaded
         entry: 0,
         records: 0,
         cells: 0,
+    }
+}
+
+// The answer of a load that is accepted.
+fn accepted_answer(header: Header, entry: u32, records: usize, cells: usize) -> Loaded
+    ensures { λ r. ⌜ r ≡ record { refusal = refusal 0 0 0; header = header; entry = entry; records = records; cells = cells } ⌝ }
+{
+    Loaded {
+        refusal: window::refuse(0, 0, 0),
+        header,
+        entry,
+        records,
+        cells,
     }
 }
 
@@ -60,17 +74,7 @@ pub fn load(text: &[u8], base: u32, memory: &mut [u8], marks: &mut [u8]) -> Load
         } => {
             store::store_all(&table, text, low, memory);
             let header = store::header_of(&table, text);
-            Loaded {
-                refusal: Refusal {
-                    reason: 0,
-                    ordinal: 0,
-                    place: 0,
-                },
-                header,
-                entry,
-                records,
-                cells,
-            }
+            accepted_answer(header, entry, records, cells)
         }
     }
 }

@@ -8,7 +8,7 @@ use mathlib.Core.Option.{Option, none, some}
 use lib.Dec.{ltb, eqb}
 use lib.ListN.{length, getD, take, drop, length-drop}
 use lib.Seq.{getD-drop, length-take-le, drop-drop}
-use borrow.Author.Tests.{ltb-false, not-false}
+use borrow.Author.Tests.{not-false}
 use Rattle.hex.specs.Digits.{byteOf, bytes}
 use Rattle.hex.specs.Numbers.{number}
 use Rattle.hex.proofs.TestLaws.{Of, by-test, or-neither}
@@ -20,7 +20,7 @@ use Rattle.srec.proofs.BoundLaws.{Sane, ReadOk, read-ok}
 use Rattle.reader.specs.declared.Record.{Record}
 use Rattle.reader.specs.declared.Record.the-variants.{Good, Bad}
 use Rattle.reader.specs.Records.{asRecord}
-use Rattle.reader.proofs.KindLaws.{Known, known-kind, six-inv}
+use Rattle.reader.proofs.KindLaws.{Known, known-kind, row-6-inv}
 
 pub record Fields (chars : List ℕ) (k : Kind) (a : ℕ) (ds : List ℕ) : Type 0 where
   pub type-known : kindOf (getD chars 1 0) ≡ some k
@@ -35,57 +35,59 @@ known-some none h = absurd (let z : _≡_ {A = ℕ} 0 1 = cc in omega arith)
 known-some (some k) h = refl
 
 module _ (chars : List ℕ) where
-  abbrev k : Kind
-  k = known (kindOf (getD chars 1 0))
-
-  abbrev bs : List ℕ
+  -- the bytes behind the type, the first of which is the count
+  abbrev pub bs : List ℕ
   bs = bytes (drop 2 chars)
 
-  abbrev count : ℕ
+  abbrev pub count : ℕ
   count = getD bs 0 0
 
-  module _ (four : 4 ≤ length chars) (type-known : kindOf (getD chars 1 0) ≡ some k) (long : length chars ≡ 4 + 2 * count) (least : width k + 1 ≤ count) where
-    count-at : byteOf (getD chars 2 0) (getD chars 3 0) ≡ count
-    count-at = sym (byte-at 0 (drop 2 chars) (omega (arith, length-drop 2 chars)) ∙ rw (getD-drop, getD-drop))
+  pub count-at : 4 ≤ length chars → byteOf (getD chars 2 0) (getD chars 3 0) ≡ count
+  count-at four = sym (byte-at 0 (drop 2 chars) (omega (arith, length-drop 2 chars)) ∙ rw (getD-drop, getD-drop))
 
-    length-data : length (dataIn k bs) ≡ count - (width k + 1)
-    unfolding dataIn
-    length-data =
-        let l : length bs ≡ count + 1 = length-bytes (count + 1) (drop 2 chars) (omega (arith, length-drop 2 chars)) in
-        length-take-le (count - (width k + 1)) (drop (width k + 1) bs) (omega (arith, length-drop (width k + 1) bs))
-
-    data-at : dataIn k bs ≡ bytes (take (2 * (count - (width k + 1))) (drop (4 + 2 * width k) chars))
-    unfolding dataIn
-    data-at =
-        let e : 2 + 2 * (width k + 1) ≡ 4 + 2 * width k = omega arith in
-        ap (take (count - (width k + 1))) (drop-bytes (width k + 1) (drop 2 chars) ∙ ap bytes (drop-drop (2 * (width k + 1)) 2 chars ∙ ap (λ (i : ℕ). drop i chars) e))
-        ∙ take-bytes (count - (width k + 1)) (drop (4 + 2 * width k) chars)
-
-    address-at : addressIn k bs ≡ number (bytes (take (2 * width k) (drop 4 chars)))
+  module _ (k : Kind) where
+    pub address-at : addressIn k bs ≡ number (bytes (take (2 * width k) (drop 4 chars)))
     unfolding addressIn
     address-at =
         ap (λ (x : List ℕ). number (take (width k) x)) (drop-bytes 1 (drop 2 chars) ∙ ap bytes (drop-drop 2 2 chars))
         ∙ ap number (take-bytes (width k) (drop 4 chars))
 
-    fields : Fields chars k (addressIn k bs) (dataIn k bs)
-    fields = record {
-      type-known = type-known;
-      count-is = count-at ∙ omega (arith, length-data);
-      long = omega (arith, length-data);
-      address-is = address-at;
-      data-is = data-at ∙ ap (λ (n : ℕ). bytes (take (2 * n) (drop (4 + 2 * width k) chars))) (sym length-data);
-    }
+    -- data fill what count leaves
+    module _ (long : length chars ≡ 4 + 2 * count) (least : width k + 1 ≤ count) where
+      pub length-data : length (dataIn k bs) ≡ count - (width k + 1)
+      unfolding dataIn
+      length-data =
+          let l : length bs ≡ count + 1 = length-bytes (count + 1) (drop 2 chars) (omega (arith, length-drop 2 chars)) in
+          length-take-le (count - (width k + 1)) (drop (width k + 1) bs) (omega (arith, length-drop (width k + 1) bs))
+
+      data-at : dataIn k bs ≡ bytes (take (2 * (count - (width k + 1))) (drop (4 + 2 * width k) chars))
+      unfolding dataIn
+      data-at =
+          let e : 2 + 2 * (width k + 1) ≡ 4 + 2 * width k = omega arith in
+          ap (take (count - (width k + 1))) (drop-bytes (width k + 1) (drop 2 chars) ∙ ap bytes (drop-drop (2 * (width k + 1)) 2 chars ∙ ap (λ (i : ℕ). drop i chars) e))
+          ∙ take-bytes (count - (width k + 1)) (drop (4 + 2 * width k) chars)
+
+      fields : kindOf (getD chars 1 0) ≡ some k → Fields chars k (addressIn k bs) (dataIn k bs)
+      fields type-known = record {
+        type-known = type-known;
+        count-is = count-at (omega arith) ∙ omega (arith, length-data);
+        long = omega (arith, length-data);
+        address-is = address-at;
+        data-is = data-at ∙ ap (λ (n : ℕ). bytes (take (2 * n) (drop (4 + 2 * width k) chars))) (sym length-data);
+      }
 
   -- the tests of rows 4 and 6 that a good record passes
-  passed : row4 chars ≡ false → row6 k (length chars) count ≡ false → Fields chars k (addressIn k bs) (dataIn k bs)
+  abbrev kind : Kind
+  kind = known (kindOf (getD chars 1 0))
+
+  passed : row4 chars ≡ false → row6 kind (length chars) count ≡ false → Fields chars kind (addressIn kind bs) (dataIn kind bs)
   unfolding row4
   passed four six =
       let o : ((ltb (length chars) 4 || not (eqb (getD chars 0 0) 83)) ≡ false) × (not (isKnown (kindOf (getD chars 1 0))) ≡ false)
       = or-neither (ltb (length chars) 4 || not (eqb (getD chars 0 0) 83)) (not (isKnown (kindOf (getD chars 1 0)))) four in
-      let l : 4 ≤ length chars = ltb-false (length chars) 4 (or-neither (ltb (length chars) 4) (not (eqb (getD chars 0 0) 83)) (o .0) .0) in
-      let t : kindOf (getD chars 1 0) ≡ some k = known-some (kindOf (getD chars 1 0)) (not-false (isKnown (kindOf (getD chars 1 0))) (o .1)) in
-      let s : (length chars ≡ 4 + 2 * count) × (width k + 1 ≤ count) = six-inv (getD chars 1 0) (width k) (length chars) count (known-kind (getD chars 1 0) k t) six in
-      fields l t (s .0) (s .1)
+      let t : kindOf (getD chars 1 0) ≡ some kind = known-some (kindOf (getD chars 1 0)) (not-false (isKnown (kindOf (getD chars 1 0))) (o .1)) in
+      let s : (length chars ≡ 4 + 2 * count) × (width kind + 1 ≤ count) = row-6-inv (getD chars 1 0) (width kind) (length chars) count (known-kind (getD chars 1 0) kind t) six in
+      fields kind (s .0) (s .1) t
 
 -- a good record has its fields
 pub read-fields : (chars : List ℕ) (k : Kind) (a : ℕ) (ds : List ℕ) → read chars ≡ good k a ds → Fields chars k a ds
@@ -94,7 +96,7 @@ read-fields chars v a ds q =
     by-test (row3 chars) (λ t. absurd (never (rw t at q)))
     (λ t₃. by-test (row4 chars) (λ t. absurd (never (rw (t₃, t) at q)))
     (λ t₄. by-test (row5 chars) (λ t. absurd (never (rw (t₃, t₄, t) at q)))
-    (λ t₅. by-test (row6 (k chars) (length chars) (count chars)) (λ t. absurd (never (rw (t₃, t₄, t₅, t) at q)))
+    (λ t₅. by-test (row6 (kind chars) (length chars) (count chars)) (λ t. absurd (never (rw (t₃, t₄, t₅, t) at q)))
     (λ t₆. by-test (row7 (bs chars)) (λ t. absurd (never (rw (t₃, t₄, t₅, t₆, t) at q)))
     (λ t₇. same (passed chars t₄ t₆) (rw (t₃, t₄, t₅, t₆, t₇) at q))))))
   where

@@ -68,32 +68,32 @@ unknown-type c w q h = go (kindOf c) refl (kind-facts c)
 -- ---- row 6
 
 module _ (c w n count : ℕ) (t : Known c w) where
-  pub six-length : (n ≡ 4 + 2 * count → ⊥) → row6 (known (kindOf c)) n count ≡ true
+  pub row-6-length : (n ≡ 4 + 2 * count → ⊥) → row6 (known (kindOf c)) n count ≡ true
   unfolding row6
-  six-length h = rw (t .is, ne-eqb n (4 + 2 * count) h)
+  row-6-length h = rw (t .is, ne-eqb n (4 + 2 * count) h)
 
-  pub six-low : n ≡ 4 + 2 * count → count < w + 1 → row6 (known (kindOf c)) n count ≡ true
+  pub row-6-low : n ≡ 4 + 2 * count → count < w + 1 → row6 (known (kindOf c)) n count ≡ true
   unfolding row6
-  six-low h l = rw (t .is, eq-eqb n (4 + 2 * count) h, t .width-is, lt-ltb count (w + 1) l)
+  row-6-low h l = rw (t .is, eq-eqb n (4 + 2 * count) h, t .width-is, lt-ltb count (w + 1) l)
 
   -- the last test of row 6, where the first two do not hold
   six-last : n ≡ 4 + 2 * count → w + 1 ≤ count → row6 (known (kindOf c)) n count ≡ (not (leb c 51) && not (eqb count (w + 1)))
   unfolding row6
   six-last h l = rw (t .is, eq-eqb n (4 + 2 * count) h, t .width-is, le-ltb count (w + 1) l, t .data-is)
 
-  pub six-data : n ≡ 4 + 2 * count → w + 1 ≤ count → c ≤ 51 → row6 (known (kindOf c)) n count ≡ false
-  six-data h l d = six-last h l ∙ rw (le-leb c 51 d)
+  pub row-6-data : n ≡ 4 + 2 * count → w + 1 ≤ count → c ≤ 51 → row6 (known (kindOf c)) n count ≡ false
+  row-6-data h l d = six-last h l ∙ rw (le-leb c 51 d)
 
-  pub six-none : n ≡ 4 + 2 * count → w + 1 ≤ count → 51 < c → row6 (known (kindOf c)) n count ≡ not (eqb count (w + 1))
-  six-none h l d = six-last h l ∙ rw (lt-leb c 51 d)
+  pub row-6-none : n ≡ 4 + 2 * count → w + 1 ≤ count → 51 < c → row6 (known (kindOf c)) n count ≡ not (eqb count (w + 1))
+  row-6-none h l d = six-last h l ∙ rw (lt-leb c 51 d)
 
   -- what a record that passes row 6 has
-  pub six-inv : row6 (known (kindOf c)) n count ≡ false → (n ≡ 4 + 2 * count) × (w + 1 ≤ count)
-  six-inv h =
+  pub row-6-inv : row6 (known (kindOf c)) n count ≡ false → (n ≡ 4 + 2 * count) × (w + 1 ≤ count)
+  row-6-inv h =
       by-test (eqb n (4 + 2 * count))
       (λ e. let q : n ≡ 4 + 2 * count = eqb-true n (4 + 2 * count) e in
-      by-test (ltb count (w + 1)) (λ f. absurd (both (six-low q (ltb-true count (w + 1) f)) h)) (λ f. (q, ltb-false count (w + 1) f)))
-      (λ e. absurd (both (six-length (eqb-false n (4 + 2 * count) e)) h))
+      by-test (ltb count (w + 1)) (λ f. absurd (both (row-6-low q (ltb-true count (w + 1) f)) h)) (λ f. (q, ltb-false count (w + 1) f)))
+      (λ e. absurd (both (row-6-length (eqb-false n (4 + 2 * count) e)) h))
     where
       both : {b : Bool} → b ≡ true → b ≡ false → ⊥
       both p q = let z : _≡_ {A = ℕ} 0 1 = cc in omega arith

@@ -1,5 +1,5 @@
 pub mod KindLaws
 pub mod WalkLaws
-pub mod ReadLaws
 pub mod FieldLaws
+pub mod ReadLaws
 pub mod TurnLaws

@@ -17,15 +17,8 @@ pub enum Found {
 
 // What a record says: its type character, address and number of data bytes; or the row that refuses it, and where.
 pub enum Record {
-    Good {
-        kind: u8,
-        address: u32,
-        count: usize,
-    },
-    Bad {
-        reason: u32,
-        place: usize,
-    },
+    Good(u8, u32, usize),
+    Bad(u32, usize),
 }
 
 // A line end: LF or CR.
@@ -117,40 +110,34 @@ pub fn read_record(table: &[u8; 256], chars: &[u8], place: usize) -> Record
 {
     let n = chars.len();
     if n > 514 {
-        return Record::Bad { reason: 3, place };
+        return Record::Bad(3, place);
     }
     if n < 4 {
-        return Record::Bad { reason: 4, place };
+        return Record::Bad(4, place);
     }
     if chars[0] != 83 {
-        return Record::Bad { reason: 4, place };
+        return Record::Bad(4, place);
     }
     let kind = chars[1];
     let width = width_of(kind);
     if width == 0 {
-        return Record::Bad { reason: 4, place };
+        return Record::Bad(4, place);
     }
     let wrong = hex::first_bad(table, &chars[2..]);
     if wrong < n - 2 {
-        return Record::Bad {
-            reason: 5,
-            place: place + (2 + wrong),
-        };
+        return Record::Bad(5, place + (2 + wrong));
     }
     let count = hex::byte_of(table, chars[2], chars[3]) as usize;
     if !fits(kind, width, n, count) {
-        return Record::Bad { reason: 6, place };
+        return Record::Bad(6, place);
     }
     let end = 2 + 2 * count;
     if hex::byte_of(table, chars[end], chars[end + 1])
         != 255 - hex::sum_pairs(table, &chars[2..end])
     {
-        return Record::Bad { reason: 7, place };
+        return Record::Bad(7, place);
     }
     let data = 4 + 2 * width;
-    Record::Good {
-        kind,
-        address: hex::number_of(table, &chars[4..data]),
-        count: count - (width + 1),
-    }
+    let address = hex::number_of(table, &chars[4..data]);
+    Record::Good(kind, address, count - (width + 1))
 }

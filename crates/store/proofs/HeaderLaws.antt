@@ -1,18 +1,16 @@
 -- The header's array, and the header of an accepted text.
-use mathlib.Core.Path.{_≡_, refl, sym, ap, ap₂, _∙_, subst}
-use Prim.Native.Nat.{ℕ, zero, suc, _+_, _-_, _*_, _/_, _≤_, _<_}
+use mathlib.Core.Path.{_≡_, refl, sym, ap, _∙_, subst}
+use Prim.Native.Nat.{ℕ, zero, suc, _+_, _-_, _*_, _≤_}
 use native.Mathlib.Nat.{zero-add, suc-add}
-use native.Mathlib.Numerals.{add-one}
 use native.Mathlib.Omega.{arith}
 use mathlib.Core.List.{List, [], _∷_, _++_}
-use lib.ListN.{length, getD, take, drop, set, replicate}
-use lib.Seq.{drop-cons, set-at, append-snoc, take-suc, take-all, length-take-le}
+use lib.ListN.{length, take, drop, replicate}
 use mathlib.Core.Bool.{true, false, cond}
 use mathlib.Core.Option.{some}
 use Rattle.window.specs.Plans.{Summary, refusal}
 use Rattle.window.specs.Plans.Plan.{done}
 use Rattle.window.proofs.PlanLaws.{final}
-use Rattle.hex.specs.Digits.{byteOf, bytes}
+use Rattle.hex.specs.Digits.{bytes}
 use Rattle.hex.proofs.TestLaws.{by-test}
 use Rattle.srec.specs.declared.Header.{Header}
 use Rattle.srec.specs.Lines.{Line, lines}
@@ -28,38 +26,21 @@ use Rattle.reader.specs.Records.{asRecord}
 use Rattle.reader.proofs.FieldLaws.{Fields, Got}
 use Rattle.reader.proofs.KindLaws.{Known, known-kind}
 use Rattle.store.specs.Headers.{s0Data, firstHeader}
-use Rattle.hex.proofs.PairLaws.{byte-at, length-bytes}
 
--- ---- the array as a loop fills it
+-- ---- the header's array
 
 abbrev pub zeros : List ℕ
 zeros = replicate 252 0
-
--- how many bytes characters stand for
-half : (cs : List ℕ) → length (bytes cs) ≡ length cs / 2
-half [] = refl
-half (c ∷ []) = refl
-half (c ∷ d ∷ cs) = omega (arith, half cs)
-
-pub pad-turn : (cs : List ℕ) (k : ℕ) → k < length cs / 2 → length cs ≤ 504
-    → set (take k (bytes cs) ++ drop k zeros) k (byteOf (getD cs (2 * k) 0) (getD cs (2 * k + 1) 0)) ≡ take (k + 1) (bytes cs) ++ drop (k + 1) zeros
-pad-turn cs k h l =
-    let n : length (take k (bytes cs)) ≡ k = length-take-le k (bytes cs) (omega (arith, half cs)) in
-    rw (drop-cons zeros k 0 (omega arith), add-one k, take-suc (bytes cs) k 0 (omega (arith, half cs)), byte-at k cs (omega arith))
-    (set-at (take k (bytes cs)) (getD zeros k 0) (drop (suc k) zeros) (byteOf (getD cs (2 * k) 0) (getD cs (2 * k + 1) 0)) k n
-    ∙ sym (append-snoc (take k (bytes cs)) (byteOf (getD cs (2 * k) 0) (getD cs (2 * k + 1) 0)) (drop (suc k) zeros)))
 
 drop-zeros : (n k : ℕ) → drop n (replicate {A = ℕ} (n + k) 0) ≡ replicate k 0
 drop-zeros zero k = ap (λ (j : ℕ). replicate j 0) (zero-add k)
 drop-zeros (suc n) k = ap (λ (j : ℕ). drop (suc n) (replicate {A = ℕ} j 0)) (suc-add n k) ∙ drop-zeros n k
 
-pub pad-end : (cs : List ℕ) (k : ℕ) → k ≡ length cs / 2 → length cs ≤ 504
-    → take k (bytes cs) ++ drop k zeros ≡ bytes cs ++ replicate (252 - length (bytes cs)) 0
-pad-end cs k e h =
-    let n : k ≡ length (bytes cs) = e ∙ sym (half cs) in
-    let m : length (bytes cs) + (252 - length (bytes cs)) ≡ 252 = omega (arith, half cs) in
-    rw n (ap₂ {B = List ℕ} _++_ (take-all (length (bytes cs)) (bytes cs) (omega arith))
-    (ap (λ (j : ℕ). drop (length (bytes cs)) (replicate {A = ℕ} j 0)) (sym m) ∙ drop-zeros (length (bytes cs)) (252 - length (bytes cs))))
+-- behind the first n bytes the array stays zero
+padding : (n : ℕ) → n ≤ 252 → drop n zeros ≡ replicate (252 - n) 0
+padding n h =
+    let m : 252 ≡ n + (252 - n) = omega arith in
+    ap (λ (j : ℕ). drop n (replicate {A = ℕ} j 0)) m ∙ drop-zeros n (252 - n)
 
 -- ---- the header that a record holds
 
@@ -90,16 +71,16 @@ header-other chars kind a n r h = no-header chars (ap s0Data (r .is) ∙ go (r .
     go (End w) e = refl
 
 pub header-s0 : (chars : List ℕ) (kind a n : ℕ) → Got chars kind a n → kind ≡ 48 → (bs : List ℕ)
-    → bs ≡ headerOf (bytes (take (8 + 2 * n - 8) (drop 8 chars))) .bytes → record { len = n; bytes = bs } ≡ headerOf (s0Data (read chars))
+    → bs ≡ bytes (take (8 + 2 * n - 8) (drop 8 chars)) → record { len = n; bytes = bs ++ drop n zeros } ≡ headerOf (s0Data (read chars))
 unfolding kindOf
 header-s0 chars kind a n r c bs q =
     let k : r .k ≡ S0 = same (sym (r .known-is) ∙ ap kindOf c) in
     let is : read chars ≡ good S0 a (r .ds) = r .is ∙ ap (λ (x : Kind). good x a (r .ds)) k in
     let f : Fields chars S0 a (r .ds) = subst (λ (x : Kind). Fields chars x a (r .ds)) k (r .fields) in
     let e : 8 + 2 * n - 8 ≡ 2 * length (r .ds) = omega (arith, r .len) in
-    let d : bytes (take (8 + 2 * n - 8) (drop 8 chars)) ≡ r .ds = ap (λ (j : ℕ). bytes (take j (drop 8 chars))) e ∙ sym (f .data-is) in
-    let b : bs ≡ headerOf (r .ds) .bytes = q ∙ ap (λ (x : List ℕ). headerOf x .bytes) d in
-    (λ i. record { len = sym (r .len) i; bytes = b i }) ∙ ap (λ (x : Read). headerOf (s0Data x)) (sym is)
+    let d : bs ≡ r .ds = q ∙ ap (λ (j : ℕ). bytes (take j (drop 8 chars))) e ∙ sym (f .data-is) in
+    let z : drop n zeros ≡ replicate (252 - length (r .ds)) 0 = padding n (r .small .1) ∙ ap (λ (j : ℕ). replicate (252 - j) 0) (sym (r .len)) in
+    (λ i. record { len = sym (r .len) i; bytes = d i ++ z i }) ∙ ap (λ (x : Read). headerOf (s0Data x)) (sym is)
   where
     same : {x y : Kind} → some x ≡ some y → x ≡ y
     same e = cc

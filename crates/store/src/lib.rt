@@ -57,33 +57,13 @@ pub fn store_all(table: &[u8; 256], text: &[u8], base: usize, memory: &mut [u8])
     }
 }
 
-// The bytes of up to 252 pairs of digits, and zero behind them.
-fn padded(table: &[u8; 256], chars: &[u8]) -> [u8; 252]
-    requires { ⌜ (now table ≡ digitTable) × (length (now chars) ≤ 504) ⌝ }
-    ensures { λ r. ⌜ r ≡ headerOf (bytes (now (chars .entry))) .bytes ⌝ }
-{
-    let n = chars.len() / 2;
-    let mut bytes = [0u8; 252];
-    let mut k: usize = 0;
-    while k < n {
-        bytes[k] = hex::byte_of(table, chars[2 * k], chars[2 * k + 1]);
-        k += 1;
-    }
-    bytes
-}
-
 // The header that a record holds: the data of an S0, or none.
 fn header_in(table: &[u8; 256], chars: &[u8]) -> Header
     requires { ⌜ now table ≡ digitTable ⌝ }
     ensures { λ r. ⌜ r ≡ headerOf (s0Data (read (now (chars .entry)))) ⌝ }
 {
     let answer = reader::read_record(table, chars, 0);
-    let Record::Good {
-        kind,
-        address: _,
-        count,
-    } = answer
-    else {
+    let Record::Good(kind, _, count) = answer else {
         return Header {
             len: 0,
             bytes: [0u8; 252],
@@ -96,10 +76,9 @@ fn header_in(table: &[u8; 256], chars: &[u8]) -> Header
         };
     }
     let end = 8 + 2 * count;
-    Header {
-        len: count,
-        bytes: padded(table, &chars[8..end]),
-    }
+    let mut bytes = [0u8; 252];
+    hex::store_pairs(table, &mut bytes[..count], &chars[8..end]);
+    Header { len: count, bytes }
 }
 
 // The header of a text: that of its first record.

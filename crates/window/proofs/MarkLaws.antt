@@ -67,23 +67,23 @@ module _ (base : ℕ) (ms : List ℕ) (a n : ℕ) where
   unfolding claimRow row12
   low z l = rw (ne-eqb n 0 z, lt-ltb a base l)
 
-  pub claim-low : (n ≡ 0 → ⊥) → a < base → (12 ≡ claimRow base ms a n) × (ms ≡ claimed base ms a n)
-  claim-low z l = (sym (low z l), sym (left 11 (low z l)))
+  pub row-12-low : (n ≡ 0 → ⊥) → a < base → (12 ≡ claimRow base ms a n) × (ms ≡ claimed base ms a n)
+  row-12-low z l = (sym (low z l), sym (left 11 (low z l)))
 
   high : (n ≡ 0 → ⊥) → base ≤ a → base + length ms < a + n → claimRow base ms a n ≡ 12
   unfolding claimRow row12
   high z l h = rw (ne-eqb n 0 z, le-ltb a base l, lt-ltb (base + length ms) (a + n) h)
 
-  pub claim-high : (n ≡ 0 → ⊥) → base ≤ a → base + length ms < a + n → (12 ≡ claimRow base ms a n) × (ms ≡ claimed base ms a n)
-  claim-high z l h = (sym (high z l h), sym (left 11 (high z l h)))
+  pub row-12-high : (n ≡ 0 → ⊥) → base ≤ a → base + length ms < a + n → (12 ≡ claimRow base ms a n) × (ms ≡ claimed base ms a n)
+  row-12-high z l h = (sym (high z l h), sym (left 11 (high z l h)))
 
   inside : (n ≡ 0 → ⊥) → base ≤ a → a + n ≤ base + length ms → claimRow base ms a n ≡ cond (isFree (take n (drop (a - base) ms))) 0 13
   unfolding claimRow row12
   inside z l h = rw (ne-eqb n 0 z, le-ltb a base l, le-ltb (base + length ms) (a + n) h)
 
-  pub claim-taken : (n ≡ 0 → ⊥) → base ≤ a → a + n ≤ base + length ms → isFree (take n (drop (a - base) ms)) ≡ false
+  pub row-13 : (n ≡ 0 → ⊥) → base ≤ a → a + n ≤ base + length ms → isFree (take n (drop (a - base) ms)) ≡ false
       → (13 ≡ claimRow base ms a n) × (ms ≡ claimed base ms a n)
-  claim-taken z l h f =
+  row-13 z l h f =
       let e : claimRow base ms a n ≡ 13 = inside z l h ∙ rw f in
       (sym e, sym (left 12 e))
 

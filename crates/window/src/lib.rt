@@ -1,6 +1,7 @@
 // A window of lent memory: cells, marks, and where data goes.
 ghost use mathlib.Core.Path.{_≡_};
 ghost use lib.ListN.{length, replicate};
+ghost use Rattle.window.specs.Plans.{refusal};
 ghost use Rattle.window.specs.Marks.{isFree, claimRow, claimed};
 
 // Why and where something is refused. The reason is the row's number in docs/FORMAT.md, 0 for none.
@@ -10,6 +11,17 @@ pub struct Refusal {
     pub reason: u32,
     pub ordinal: usize,
     pub place: usize,
+}
+
+// A refusal of these three numbers.
+pub fn refuse(reason: u32, ordinal: usize, place: usize) -> Refusal
+    ensures { λ r. ⌜ r ≡ refusal reason ordinal place ⌝ }
+{
+    Refusal {
+        reason,
+        ordinal,
+        place,
+    }
 }
 
 // Sets every byte of a part to a value.

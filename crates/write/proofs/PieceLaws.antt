@@ -8,7 +8,7 @@ use lib.Dec.{leb}
 use lib.ListN.{length, take, drop, length-append}
 use borrow.Author.Tests.{le-leb, lt-leb}
 use Rattle.hex.proofs.TestLaws.{by-test}
-use Rattle.window.specs.Windows.{Window}
+use Rattle.window.specs.Windows.{Window, windowOf}
 use Rattle.window.specs.Images.{over}
 use Rattle.window.specs.Cells.{Cell, Run}
 use Rattle.window.specs.Plans.{Entry}
@@ -20,9 +20,9 @@ use Rattle.srec.specs.Write.{textOf}
 use Rattle.emit.specs.Records.{lineOf}
 use Rattle.emit.proofs.OverLaws.{over-none, over-more}
 use Rattle.emit.proofs.LineLaws.{line-text, length-line}
-use Rattle.write.specs.Walks.{windowOf, shown, gap}
-use Rattle.write.specs.Sizes.{dataText, countText}
-use Rattle.write.proofs.RunWalkLaws.{cellsFrom, NextAt, from-next, from-zero, from-end, EndsAt, runs-at}
+use Rattle.measure.specs.Walks.{shown, gap}
+use Rattle.write.specs.Pieces.{dataText, countText}
+use Rattle.measure.proofs.RunWalkLaws.{cellsFrom, NextAt, from-next, from-zero, from-end, EndsAt, runs-at}
 
 -- ---- the pieces
 

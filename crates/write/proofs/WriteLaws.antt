@@ -6,16 +6,17 @@ use mathlib.Core.List.{List, _++_}
 use lib.ListN.{length, drop}
 use borrow.Author.Tests.{ne-eqb, eq-eqb, lt-ltb, le-ltb}
 use Rattle.window.specs.declared.Refusal.{Refusal}
-use Rattle.window.specs.Windows.{Window, row1, Allowed, firstBadMark, row16}
+use Rattle.window.specs.Windows.{Window, row1, Allowed, firstBadMark, row16, windowOf}
 use Rattle.window.specs.Images.{over}
 use Rattle.window.specs.Plans.{Entry, refusal}
 use Rattle.srec.specs.declared.Written.{Written}
 use Rattle.srec.specs.Canonical.{largest, widthFor}
 use Rattle.srec.specs.Write.{WriteOutcome, textOf, row15, row17, write, writeAnswer, outputAfter}
 use Rattle.srec.specs.Write.WriteOutcome.{declined, wrote}
-use Rattle.write.specs.declared.Size.{Size}
-use Rattle.write.specs.Walks.{windowOf, shown}
-use Rattle.write.specs.Sizes.{sizeOf, lengthFor}
+use Rattle.measure.specs.declared.Size.{Size}
+use Rattle.measure.specs.Walks.{shown}
+use Rattle.measure.specs.Sizes.{sizeOf}
+use Rattle.write.specs.Pieces.{lengthFor}
 use Rattle.write.proofs.LengthLaws.{length-canonical}
 
 -- what is computed before the text is written is its length
@@ -37,32 +38,32 @@ module _ (base : ℕ) (memory marks header : List ℕ) (e : Entry) (room : ℕ) 
   text = textOf (windowOf base memory marks) header e
 
   -- row 1: marks and memory differ in length
-  pub refused-1-lengths : (length marks ≡ length memory → ⊥) → outcome ≡ declined (refusal 1 0 0)
+  pub row-1-lengths : (length marks ≡ length memory → ⊥) → outcome ≡ declined (refusal 1 0 0)
   unfolding write row1
-  refused-1-lengths h = rw (ne-eqb (length marks) (length memory) h)
+  row-1-lengths h = rw (ne-eqb (length marks) (length memory) h)
 
   -- row 1: base + length passes 2^32
-  pub refused-1-reach : length marks ≡ length memory → 2 ^ 32 < base + length memory → outcome ≡ declined (refusal 1 0 0)
+  pub row-1-reach : length marks ≡ length memory → 2 ^ 32 < base + length memory → outcome ≡ declined (refusal 1 0 0)
   unfolding write row1
-  refused-1-reach l h = rw (eq-eqb (length marks) (length memory) l, lt-ltb (2 ^ 32) (base + length memory) h)
+  row-1-reach l h = rw (eq-eqb (length marks) (length memory) l, lt-ltb (2 ^ 32) (base + length memory) h)
 
   module _ (allowed : Allowed (windowOf base memory marks)) where
     -- row 15
-    pub refused-15 : 252 < length header → outcome ≡ declined (refusal 15 0 0)
+    pub row-15 : 252 < length header → outcome ≡ declined (refusal 15 0 0)
     unfolding write row15
-    refused-15 h = rw (allowed, lt-ltb 252 (length header) h)
+    row-15 h = rw (allowed, lt-ltb 252 (length header) h)
 
     module _ (short : length header ≤ 252) where
       -- row 16, at the first such mark
-      pub refused-16 : firstBadMark marks < length marks → outcome ≡ declined (refusal 16 0 (firstBadMark marks))
+      pub row-16 : firstBadMark marks < length marks → outcome ≡ declined (refusal 16 0 (firstBadMark marks))
       unfolding write row15 row16
-      refused-16 h = rw (allowed, le-ltb 252 (length header) short, lt-ltb (firstBadMark marks) (length marks) h)
+      row-16 h = rw (allowed, le-ltb 252 (length header) short, lt-ltb (firstBadMark marks) (length marks) h)
 
       module _ (none : length marks ≤ firstBadMark marks) where
         -- row 17, with the length needed
-        pub refused-17 : room < length text → outcome ≡ declined (refusal 17 0 (length text))
+        pub row-17 : room < length text → outcome ≡ declined (refusal 17 0 (length text))
         unfolding write row15 row16 row17
-        refused-17 h =
+        row-17 h =
             rw (allowed, le-ltb 252 (length header) short, le-ltb (firstBadMark marks) (length marks) none, lt-ltb room (length text) h)
 
         -- no row applies

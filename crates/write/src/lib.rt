@@ -1,119 +1,19 @@
 // The canonical text of a window, written into a lent output.
 use emit::put_line;
+use measure::Size;
 use srec::Written;
 use window::Refusal;
 ghost use mathlib.Core.Path.{_≡_};
-ghost use mathlib.Core.List.{List};
-ghost use Prim.Native.Nat.{ℕ, _+_, _*_, _^_, _≤_, _<_, max};
-ghost use lib.ListN.{length, drop};
-ghost use Rattle.window.specs.Windows.{firstBadMark};
+ghost use Prim.Native.Nat.{_+_, _^_, _≤_};
+ghost use lib.ListN.{length};
+ghost use Rattle.window.specs.Windows.{windowOf};
 ghost use Rattle.window.specs.Plans.{refusal};
 ghost use Rattle.window.specs.Images.{over};
 ghost use Rattle.srec.specs.Canonical.{runs, largest, widthFor};
 ghost use Rattle.srec.specs.Write.{textOf, write, writeAnswer, outputAfter};
 ghost use Rattle.srec.specs.Write.WriteOutcome.{declined};
-ghost use Rattle.write.specs.Walks.{windowOf, shown, gap, runOn};
-ghost use Rattle.write.specs.Sizes.{sizeOf, dataText, countText, lengthFor};
-
-// How many data records and cells a text has, and its largest address, entry included.
-struct Size {
-    records: usize,
-    cells: usize,
-    largest: u32,
-}
-
-// The index of the first mark that is neither 0 nor 1, or the number of marks.
-fn first_bad_mark(marks: &[u8]) -> usize
-    ensures { λ r. ⌜ r ≡ firstBadMark (now (marks .entry)) ⌝ }
-{
-    let mut i = 0;
-    while i < marks.len() {
-        if 1 < marks[i] {
-            return i;
-        }
-        i += 1;
-    }
-    i
-}
-
-// The index of the next marked cell from `at` on, or the number of cells.
-fn skip(marks: &[u8], at: usize) -> usize
-    requires { ⌜ at ≤ length (now marks) ⌝ }
-    ensures { λ r. ⌜ r ≡ at + gap (drop at (now (marks .entry))) ⌝ }
-{
-    let mut i = at;
-    while i < marks.len() {
-        if marks[i] != 0 {
-            return i;
-        }
-        i += 1;
-    }
-    i
-}
-
-// The index behind the run that starts at `at`. Rows of sixteen are cut by address, not by index.
-fn run_end(base: u32, marks: &[u8], at: usize) -> usize
-    requires { ⌜ (at < length (now marks)) × (base + length (now marks) ≤ 2 ^ 32) ⌝ }
-    ensures { λ r. ⌜ r ≡ at + 1 + runOn (base + (at + 1)) (drop (at + 1) (now (marks .entry))) ⌝ }
-{
-    let first = base as usize;
-    let mut j = at + 1;
-    while j < marks.len() {
-        if marks[j] == 0 {
-            return j;
-        }
-        if (first + j) % 16 == 0 {
-            return j;
-        }
-        j += 1;
-    }
-    j
-}
-
-// The larger of two addresses.
-fn larger(a: u32, b: u32) -> u32
-    ensures { λ r. ⌜ r ≡ max a b ⌝ }
-{
-    if a < b { b } else { a }
-}
-
-// The size of the text of a window with these marks, whatever its memory holds.
-fn measure(base: u32, marks: &[u8], entry: u32) -> Size
-    requires { ⌜ base + length (now marks) ≤ 2 ^ 32 ⌝ }
-    ensures { λ r. ⌜ ((memory : List ℕ) → length memory ≡ length (now (marks .entry)) → r ≡ sizeOf (shown (windowOf base memory (now (marks .entry)))) entry) ⌝ }
-    ensures { λ r. ⌜ (r .records ≤ length (now (marks .entry))) × (r .cells ≤ length (now (marks .entry))) ⌝ }
-{
-    let mut records: usize = 0;
-    let mut cells: usize = 0;
-    let mut largest = entry;
-    let mut i = skip(marks, 0);
-    while i < marks.len() {
-        let j = run_end(base, marks, i);
-        records += 1;
-        cells += j - i;
-        largest = larger(largest, base + (j - 1) as u32);
-        i = skip(marks, j);
-    }
-    Size {
-        records,
-        cells,
-        largest,
-    }
-}
-
-// The address bytes that the largest address asks for, from its leading zeros.
-fn width_for(largest: u32) -> usize
-    ensures { λ r. ⌜ r ≡ widthFor largest ⌝ }
-{
-    let bits = 32 - u32::leading_zeros(largest);
-    if bits <= 16 {
-        2
-    } else if bits <= 24 {
-        3
-    } else {
-        4
-    }
-}
+ghost use Rattle.measure.specs.Walks.{shown};
+ghost use Rattle.write.specs.Pieces.{dataText, countText, lengthFor};
 
 // The length of the canonical text.
 fn text_length(size: Size, header: usize, width: usize) -> usize
@@ -145,11 +45,11 @@ fn put_cells(
 {
     let kind = (47 + width) as u8;
     let mut at = start;
-    let mut from = skip(marks, 0);
+    let mut from = measure::skip(marks, 0);
     while from < marks.len() {
-        let to = run_end(base, marks, from);
+        let to = measure::run_end(base, marks, from);
         at = put_line(out, at, kind, width, base + from as u32, &memory[from..to]);
-        from = skip(marks, to);
+        from = measure::skip(marks, to);
     }
     at
 }
@@ -236,12 +136,12 @@ pub fn write(
     if 252 < header.len() {
         return refused(15, 0);
     }
-    let bad = first_bad_mark(marks);
+    let bad = measure::first_bad_mark(marks);
     if bad < marks.len() {
         return refused(16, bad);
     }
-    let size = measure(base, marks, entry);
-    let width = width_for(size.largest);
+    let size = measure::measure(base, marks, entry);
+    let width = measure::width_for(size.largest);
     let need = text_length(size, header.len(), width);
     if out.len() < need {
         return refused(17, need);

@@ -2,9 +2,11 @@
 //!
 //! `loads` and `writes` call both with the same arguments and compare all that
 //! comes back. `properties` asks of the library alone what must hold of texts
-//! that are loaded and written again. `examples` holds the files of the
-//! examples folder to the second reading.
+//! that are loaded and written again. `answers` compares whole answers, by way
+//! of the program `vectors`. `examples` holds the files of the examples folder
+//! to the second reading.
 
+pub mod answers;
 pub mod examples;
 pub mod loads;
 pub mod properties;

@@ -20,10 +20,11 @@ fn drawn(seed: u64, cases: u64, limits: Limits) -> Result<String, String> {
     let mut numbers = Tally::of(0..=14);
     for index in 0..cases {
         let case = load_case(seed, index, limits);
-        numbers.add(compare(&case, seed ^ index).map_err(|error| {
+        let number = compare(&case, seed ^ index).map_err(|error| {
             let case = describe(&case);
             format!("seed {seed}, index {index}: {error}\n{case}")
-        })?);
+        })?;
+        numbers.add(number);
     }
     Ok(format!("{cases} cases; rows: {}", numbers.complete()?))
 }
@@ -32,8 +33,9 @@ fn drawn(seed: u64, cases: u64, limits: Limits) -> Result<String, String> {
 pub fn large(settings: &Settings) -> Result<String, String> {
     let mut numbers = Tally::of([0, 10]);
     for (index, case) in large_load_cases(settings.seed).iter().enumerate() {
-        let number = compare(case, index as u64);
-        numbers.add(number.map_err(|error| format!("index {index}: {error}"))?);
+        let in_case = |error| format!("index {index}: {error}");
+        let number = compare(case, index as u64).map_err(in_case)?;
+        numbers.add(number);
     }
     Ok(format!("rows: {}", numbers.complete()?))
 }

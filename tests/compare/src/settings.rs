@@ -8,12 +8,18 @@ pub struct Settings {
 }
 
 impl Settings {
-    /// COMPARE_SEED and COMPARE_CASES, or the numbers of the usual run.
-    pub fn from_environment() -> Result<Settings, String> {
-        Ok(Settings {
-            seed: number("COMPARE_SEED", 1)?,
-            cases: number("COMPARE_CASES", 200_000)?,
-        })
+    /// The program's arguments SEED and CASES; seed 1 and the usual number of
+    /// cases without them. Words that begin with `-` are cargo's.
+    pub fn from_arguments(usual: u64) -> Result<Settings, String> {
+        let words = env::args().skip(1).filter(|word| !word.starts_with('-'));
+        let numbers: Vec<u64> = words.map(number).collect::<Result<_, _>>()?;
+        let (seed, cases) = match numbers[..] {
+            [] => (1, usual),
+            [seed] => (seed, usual),
+            [seed, cases] => (seed, cases),
+            _ => return Err("at most two arguments: SEED CASES".to_string()),
+        };
+        Ok(Settings { seed, cases })
     }
 
     /// So many of every 100 cases.
@@ -22,12 +28,6 @@ impl Settings {
     }
 }
 
-fn number(name: &str, usual: u64) -> Result<u64, String> {
-    let Some(value) = env::var_os(name) else {
-        return Ok(usual);
-    };
-    let value = value.to_string_lossy();
-    value
-        .parse()
-        .map_err(|_| format!("{name} is not a number: {value}"))
+fn number(word: String) -> Result<u64, String> {
+    word.parse().map_err(|_| format!("not a number: {word}"))
 }

@@ -34,7 +34,7 @@ impl<T: Ord + Debug> Display for Tally<T> {
         let counts: Vec<String> = self
             .counts
             .iter()
-            .map(|(thing, count)| format!("{thing:?} {count}"))
+            .map(|(thing, count)| format!("{thing:?}: {count}"))
             .collect();
         out.write_str(&counts.join(", "))
     }

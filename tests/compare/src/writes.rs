@@ -19,7 +19,7 @@ pub fn small(settings: &Settings) -> Result<String, String> {
 
 fn drawn(seed: u64, cases: u64, limits: Limits) -> Result<String, String> {
     let mut numbers = Tally::of([0, 1, 15, 16, 17]);
-    let mut terminators = Tally::of(['7', '8', '9']);
+    let mut terminators = Tally::of([7, 8, 9]);
     for index in 0..cases {
         let case = write_case(seed, index, limits);
         let written = compare(&case, seed ^ index).map_err(|error| {
@@ -38,9 +38,9 @@ fn drawn(seed: u64, cases: u64, limits: Limits) -> Result<String, String> {
 }
 
 /// The type of the last record of a text that was written.
-fn terminator(text: &[u8]) -> Option<char> {
+fn terminator(text: &[u8]) -> Option<u8> {
     let last = text.split(|&c| c == b'\n').rfind(|line| !line.is_empty());
-    last.map(|line| char::from(line[1]))
+    last.map(|line| line[1] - b'0')
 }
 
 /// More records than an S5 can count; the texts are loaded again.

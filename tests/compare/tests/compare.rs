@@ -23,7 +23,7 @@ const CHECKS: [(&str, Check); 12] = [
 ];
 
 fn main() -> ExitCode {
-    let settings = match Settings::from_environment() {
+    let settings = match Settings::from_arguments(300_000) {
         Ok(settings) => settings,
         Err(error) => {
             eprintln!("{error}");

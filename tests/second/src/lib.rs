@@ -2,8 +2,10 @@
 //!
 //! `reading` is the loader and the writer in their plainest form. `cases`
 //! draws texts, windows and images that reach every row of the refusal table,
-//! from the numbers of `random`.
+//! from the numbers of `random`. `script` has cases and answers in the form of
+//! the program `vectors`.
 
 pub mod cases;
 pub mod random;
 pub mod reading;
+pub mod script;

@@ -7,7 +7,7 @@ use native.Mathlib.Omega.{arith}
 use lib.ListN.{length}
 use Rattle.reader.proofs.WalkLaws.{part, Next, next-is}
 use Rattle.reader.proofs.FieldLaws.{Got, got}
-use Rattle.checker.proofs.CheckLaws.{Going, going-start, part-fits, told-14, told-unread, room, kind-known, told-refused, last-few, told-ended, going-pass, told-claim, going-put}
+use Rattle.checker.proofs.CheckLaws.{Going, going-start, part-fits, row-14, told-unread, room, kind-known, told-refused, last-few, told-ended, going-pass, told-claim, going-put}
 use borrow.Author.Needs.{needs}
 use Rattle.checker.proofs.check.Statement.{statement}
 use Rattle.checker.proofs.check.Tie as tie
@@ -19,20 +19,23 @@ abbrev μ-loop : tie.MeasureT-loop
 μ-loop table text base marks₀ state₀ at₀ marks state at = length text - at
 
 -- the record at hand, and what it says
-next-at : (c : tie.After-found Inv-loop μ-loop) → Next (c .before .before .before .before .before .before .args .text .now) (c .before .before .before .loop .at) (c .found .given .0 .0) (c .found .given .0 .1 .0)
+next-at : (c : tie.After-found Inv-loop μ-loop) → Next (c .before .before .before .before .before .before .before .args .text .now) (c .before .before .before .loop .at) (c .found .given .0 .0) (c .found .given .0 .1 .0)
 next-at c =
     let l = c .before .before .before in
     next-is _ _ _ _ (l .loop .inv .1 .walk .inside) (sym (c .found .given .1) ∙ c .before .before .next-record .ensures)
 
-fits-at : (c : tie.After-found Inv-loop μ-loop) → length (c .before .before .before .before .before .before .args .text .now) < 2 ^ 64
+fits-at : (c : tie.After-found Inv-loop μ-loop) → length (c .before .before .before .before .before .before .before .args .text .now) < 2 ^ 64
 fits-at c = omega arith
 
 got-at : (c : tie.After-answer Inv-loop μ-loop)
-    → Got (part (c .before .before .before .before .before .before .before .before .before .before .before .before .args .text .now) (c .before .before .before .before .before .before .found .given .0 .0) (c .before .before .before .before .before .before .found .given .0 .1 .0)) (c .answer .given .0 .0) (c .answer .given .0 .1 .0) (c .answer .given .0 .1 .1 .0)
+    → Got (part (c .before .before .before .before .before .before .before .before .before .before .before .before .before .args .text .now) (c .before .before .before .before .before .before .found .given .0 .0) (c .before .before .before .before .before .before .found .given .0 .1 .0)) (c .answer .given .0 .0) (c .answer .given .0 .1 .0) (c .answer .given .0 .1 .1 .0)
 got-at c = got _ _ _ _ _ (sym (c .answer .given .1) ∙ c .before .before .read-record .ensures)
 
+start-requires : tie.Need-start-requires Inv-loop μ-loop
+start-requires c κs = search needs
+
 loop-holds : tie.Need-loop-holds Inv-loop μ-loop
-loop-holds c = (refl, going-start _ _ _ (c .before .before .pre .1))
+loop-holds c = (refl, rw (c .start .ensures) (going-start _ _ _ (c .before .before .before .pre .1)))
 
 next-record-requires : tie.Need-next-record-requires Inv-loop μ-loop
 next-record-requires c κs = c .loop .inv .1 .walk .inside
@@ -43,11 +46,14 @@ enum-known-found c = search needs
 enum-told : tie.Need-enum-told Inv-loop μ-loop
 enum-told c = search needs
 
+refuse-requires : tie.Need-refuse-requires Inv-loop μ-loop
+refuse-requires c κs = search needs
+
 same-length : tie.Need-same-length Inv-loop μ-loop
-same-length c = c .before .before .before .loop .inv .0
+same-length c = c .before .before .before .before .loop .inv .0
 
 returns : tie.Need-returns Inv-loop μ-loop
-returns c = told-14 _ _ _ _ _ _ (c .before .before .before .loop .inv .1) _ (sym (c .enum-told .given .1) ∙ c .before .before .next-record .ensures)
+returns c = rw (c .refuse .ensures) (row-14 _ _ _ _ _ _ (c .before .before .before .before .loop .inv .1) _ (sym (c .before .enum-told .given .1) ∙ c .before .before .before .next-record .ensures))
 
 add-number : tie.Need-add-number Inv-loop μ-loop
 add-number c = let l = c .before .before .before .before .before .loop in record { fits = omega (arith, l .inv .1 .few .0, l .inv .1 .walk .inside) }
@@ -64,7 +70,7 @@ part-read-record-end c = omega (arith, next-at (c .before .before) .high)
 read-record-requires : tie.Need-read-record-requires Inv-loop μ-loop
 read-record-requires c κs =
     let x = next-at (c .before .before .before) in
-    (c .before .before .before .before .before .before .before .before .before .pre .0, part-fits _ _ _ _ _ x (fits-at (c .before .before .before)))
+    (c .before .before .before .before .before .before .before .before .before .before .pre .0, part-fits _ _ _ _ _ x (fits-at (c .before .before .before)))
 
 enum-known-answer : tie.Need-enum-known-answer Inv-loop μ-loop
 enum-known-answer c = search needs
@@ -99,16 +105,19 @@ judge-requires c κs =
 enum-known-step : tie.Need-enum-known-step Inv-loop μ-loop
 enum-known-step c = search needs
 
+refuse-requires-2 : tie.Need-refuse-requires-2 Inv-loop μ-loop
+refuse-requires-2 c κs = search needs
+
 same-length-3 : tie.Need-same-length-3 Inv-loop μ-loop
-same-length-3 c = c .before .before .before .before .before .before .before .before .before .before .before .before .before .before .loop .inv .0
+same-length-3 c = c .before .before .before .before .before .before .before .before .before .before .before .before .before .before .before .loop .inv .0
 
 returns-3 : tie.Need-returns-3 Inv-loop μ-loop
 returns-3 c =
-    let j = c .before .before .before in
+    let j = c .before .before .before .before in
     let r = got-at (j .before .before) in
     let x = next-at (j .before .before .before .before .before .before .before .before) in
     let g = j .before .before .before .before .before .before .before .before .before .before .before .loop .inv .1 in
-    told-refused _ _ _ _ _ _ g _ _ x _ _ _ r _ (j .judge .ensures) _ _ (c .before .step .given .1)
+    rw (c .refuse2 .ensures) (told-refused _ _ _ _ _ _ g _ _ x _ _ _ r _ (j .judge .ensures) _ _ (c .before .before .step .given .1))
 
 enum-known-step-2 : tie.Need-enum-known-step-2 Inv-loop μ-loop
 enum-known-step-2 c = search needs
@@ -155,16 +164,19 @@ cast-claim c = search needs
 claim-requires : tie.Need-claim-requires Inv-loop μ-loop
 claim-requires c κs = search needs
 
+refuse-requires-3 : tie.Need-refuse-requires-3 Inv-loop μ-loop
+refuse-requires-3 c κs = search needs
+
 same-length-5 : tie.Need-same-length-5 Inv-loop μ-loop
-same-length-5 c = c .before .before .before .claim .kept .0 ∙ c .before .before .before .before .before .before .before .before .before .before .before .before .before .before .before .before .before .before .before .loop .inv .0
+same-length-5 c = c .before .before .before .before .claim .kept .0 ∙ c .before .before .before .before .before .before .before .before .before .before .before .before .before .before .before .before .before .before .before .before .loop .inv .0
 
 returns-5 : tie.Need-returns-5 Inv-loop μ-loop
 returns-5 c =
-    let j = c .before .before .before .before .before .before .before .before in
+    let j = c .before .before .before .before .before .before .before .before .before in
     let r = got-at (j .before .before) in
     let x = next-at (j .before .before .before .before .before .before .before .before) in
     let g = j .before .before .before .before .before .before .before .before .before .before .before .loop .inv .1 in
-    told-claim _ _ _ _ _ _ g _ _ x _ _ _ r _ (j .judge .ensures) _ (c .before .before .before .before .before .before .step4 .given .1) _ (c .before .before .before .claim .ensures .0) _ (c .if1 .taken)
+    rw (c .refuse3 .ensures) (told-claim _ _ _ _ _ _ g _ _ x _ _ _ r _ (j .judge .ensures) _ (c .before .before .before .before .before .before .before .step4 .given .1) _ (c .before .before .before .before .claim .ensures .0) _ (c .before .if1 .taken))
 
 loop-less-2 : tie.Need-loop-less-2 Inv-loop μ-loop
 loop-less-2 c = let x = next-at (c .before .before .before .before .before .before .before .before .before .before .before .before .before .before .before .before) in omega (arith, x .low, x .some-chars, x .high)
@@ -183,10 +195,12 @@ check-spec =
     (tie.spec
     Inv-loop
     μ-loop
+    start-requires
     loop-holds
     next-record-requires
     enum-known-found
     enum-told
+    refuse-requires
     same-length
     returns
     add-number
@@ -201,6 +215,7 @@ check-spec =
     returns-2
     judge-requires
     enum-known-step
+    refuse-requires-2
     same-length-3
     returns-3
     enum-known-step-2
@@ -213,6 +228,7 @@ check-spec =
     enum-known-step-4
     cast-claim
     claim-requires
+    refuse-requires-3
     same-length-5
     returns-5
     loop-less-2

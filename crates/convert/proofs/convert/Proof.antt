@@ -6,7 +6,7 @@ use Rattle.window.specs.declared.Refusal.{Refusal}
 use Rattle.srec.specs.declared.Loaded.{Loaded}
 use Rattle.srec.specs.declared.Written.{Written}
 use Rattle.srec.specs.Terms.{Accepted}
-use Rattle.write.specs.Walks.{windowOf}
+use Rattle.window.specs.Windows.{windowOf}
 use Rattle.convert.proofs.ConvertLaws.{header-fits, written-is, load-refused, write-refused, text-written}
 use borrow.Author.Needs.{needs}
 use Rattle.convert.proofs.convert.Statement.{statement}

@@ -1,6 +1,7 @@
 -- `load` meets its contract: row 1, then a refusal of the check, or what the storing pass leaves.
+use mathlib.Core.Path.{_∙_}
 use lib.ListN.{length}
-use Rattle.load.proofs.LoadLaws.{answered-refused, cleared-is, cleared-again, lengths-differ, too-high, accepts, checked-refused, answered-accepted}
+use Rattle.load.proofs.LoadLaws.{answered-refused, cleared-is, cleared-again, row-1-lengths, row-1-reach, accepts, checked-refused, answered-accepted}
 use borrow.Author.Needs.{needs}
 use Rattle.load.proofs.load.Statement.{statement}
 use Rattle.load.proofs.load.Tie as tie
@@ -18,7 +19,7 @@ returns : tie.Need-returns
 returns c =
     let a = c .before .before .before .before .before .before .before .before .before .args in
     let f = c .before .before .before .before .fill in
-    answered-refused (a .memory .now) (a .marks .now) _ _ (lengths-differ (a .base) (a .memory .now) (a .marks .now) (a .text .now) _ (f .ensures) (c .before .if1 .taken)) _ (c .refused-answer .ensures) _ (f .ensures)
+    answered-refused (a .memory .now) (a .marks .now) _ _ (row-1-lengths (a .base) (a .memory .now) (a .marks .now) (a .text .now) _ (f .ensures) (c .before .if1 .taken)) _ (c .refused-answer .ensures) _ (f .ensures)
 
 sub-if2 : tie.Need-sub-if2
 sub-if2 c = search needs
@@ -33,7 +34,7 @@ returns-2 : tie.Need-returns-2
 returns-2 c =
     let a = c .before .before .before .before .before .before .before .before .before .before .args in
     let f = c .before .before .before .before .before .fill in
-    answered-refused (a .memory .now) (a .marks .now) _ _ (too-high (a .base) (a .memory .now) (a .marks .now) (a .text .now) _ (f .ensures) (c .before .before .if1 .left) (c .before .if2 .taken)) _ (c .refused-answer2 .ensures) _ (f .ensures)
+    answered-refused (a .memory .now) (a .marks .now) _ _ (row-1-reach (a .base) (a .memory .now) (a .marks .now) (a .text .now) _ (f .ensures) (c .before .before .if1 .left) (c .before .if2 .taken)) _ (c .refused-answer2 .ensures) _ (f .ensures)
 
 digit-table-requires : tie.Need-digit-table-requires
 digit-table-requires c κs = search needs
@@ -65,6 +66,9 @@ store-all-requires c κs =
 header-of-requires : tie.Need-header-of-requires
 header-of-requires c κs = search needs
 
+accepted-answer-requires : tie.Need-accepted-answer-requires
+accepted-answer-requires c κs = search needs
+
 same-length-3 : tie.Need-same-length-3
 same-length-3 c = search needs
 
@@ -79,14 +83,14 @@ same-length-4 : tie.Need-same-length-4
 same-length-4 c = search needs
 
 same-length-5 : tie.Need-same-length-5
-same-length-5 c = search needs
+same-length-5 c = c .before .before .before .before .before .before .before .before .before .before .before .before .before .check .kept .1 .1 .1 .0 ∙ c .before .before .before .before .before .before .before .before .before .before .before .before .before .before .before .before .before .before .before .before .before .fill .kept .0
 
 returns-4 : tie.Need-returns-4
 returns-4 c =
-    let s = c .before .before .before .before .before .before .before .before .before .before .before .before .before .before .before .before .before .before .before .before .before .before .before .before .before in
+    let s = c .before .before .before .before .before .before .before .before .before .before .before .before .before .before .before .before .before .before .before .before .before .before .before .before .before .before in
     let a = s .args in
-    let f = c .before .before .before .before .before .before .before .before .before .before .before .before .before .before .before .before .before .before .before .before .fill in
-    answered-accepted (a .base) (a .memory .now) (a .marks .now) (a .text .now) _ (f .ensures) (c .before .before .before .before .before .before .before .before .before .before .before .before .before .before .before .before .before .if1 .left) (c .before .before .before .before .before .before .before .before .before .before .before .before .before .before .before .before .if2 .left) (s .fits .base .fits) _ _ _ _ _ _ (rw (c .before .before .before .before .before .before .before .before .checked2 .given .1) at (c .before .before .before .before .before .before .before .before .before .before .before .before .check .ensures)) (c .before .before .before .before .store-all .ensures) (c .header-of .ensures)
+    let f = c .before .before .before .before .before .before .before .before .before .before .before .before .before .before .before .before .before .before .before .before .before .fill in
+    rw (c .accepted-answer .ensures) (answered-accepted (a .base) (a .memory .now) (a .marks .now) (a .text .now) _ (f .ensures) (c .before .before .before .before .before .before .before .before .before .before .before .before .before .before .before .before .before .before .if1 .left) (c .before .before .before .before .before .before .before .before .before .before .before .before .before .before .before .before .before .if2 .left) (s .fits .base .fits) _ _ _ _ _ _ (rw (c .before .before .before .before .before .before .before .before .before .checked2 .given .1) at (c .before .before .before .before .before .before .before .before .before .before .before .before .before .check .ensures)) (c .before .before .before .before .before .store-all .ensures) (c .before .header-of .ensures))
 
 pub load-spec : {M : Type 1} → statement M
 load-spec =
@@ -108,6 +112,7 @@ load-spec =
     enum-known-checked-2
     store-all-requires
     header-of-requires
+    accepted-answer-requires
     same-length-3
     returns-3
     same-length-4

@@ -4,7 +4,7 @@ use native.Mathlib.Omega.{arith}
 use Prim.Native.Nat.{_+_}
 use lib.Dec.{eqb}
 use mathlib.Core.Bool.{not, Bool·not-not}
-use Rattle.reader.proofs.KindLaws.{Known, known-type, six-length, six-low, six-data, six-none}
+use Rattle.reader.proofs.KindLaws.{Known, known-type, row-6-length, row-6-low, row-6-data, row-6-none}
 use borrow.Author.Needs.{needs}
 use Rattle.reader.proofs.fits.Statement.{statement}
 use Rattle.reader.proofs.fits.Tie as tie
@@ -19,7 +19,7 @@ returns : tie.Need-returns
 returns c =
     let s = c .before in
     let t : Known (s .args .kind) (s .args .width) = known-type (s .args .kind) (s .args .width) (sym (s .pre .0)) (λ e. omega arith) in
-    sym (ap not (six-length (s .args .kind) (s .args .width) (s .args .n) (s .args .count) t (c .if1 .taken)))
+    sym (ap not (row-6-length (s .args .kind) (s .args .width) (s .args .n) (s .args .count) t (c .if1 .taken)))
 
 add-if2 : tie.Need-add-if2
 add-if2 c = search needs
@@ -28,13 +28,13 @@ returns-2 : tie.Need-returns-2
 returns-2 c =
     let s = c .before .before in
     let t : Known (s .args .kind) (s .args .width) = known-type (s .args .kind) (s .args .width) (sym (s .pre .0)) (λ e. omega arith) in
-    sym (ap not (six-low (s .args .kind) (s .args .width) (s .args .n) (s .args .count) t (c .before .if1 .left) (c .if2 .taken)))
+    sym (ap not (row-6-low (s .args .kind) (s .args .width) (s .args .n) (s .args .count) t (c .before .if1 .left) (c .if2 .taken)))
 
 returns-3 : tie.Need-returns-3
 returns-3 c =
     let s = c .before .before .before in
     let t : Known (s .args .kind) (s .args .width) = known-type (s .args .kind) (s .args .width) (sym (s .pre .0)) (λ e. omega arith) in
-    sym (ap not (six-data (s .args .kind) (s .args .width) (s .args .n) (s .args .count) t (c .before .before .if1 .left) (c .before .if2 .left) (c .if3 .taken)))
+    sym (ap not (row-6-data (s .args .kind) (s .args .width) (s .args .n) (s .args .count) t (c .before .before .if1 .left) (c .before .if2 .left) (c .if3 .taken)))
 
 add-result : tie.Need-add-result
 add-result c = search needs
@@ -43,7 +43,7 @@ returns-4 : tie.Need-returns-4
 returns-4 c =
     let s = c .before .before .before in
     let t : Known (s .args .kind) (s .args .width) = known-type (s .args .kind) (s .args .width) (sym (s .pre .0)) (λ e. omega arith) in
-    sym (ap not (six-none (s .args .kind) (s .args .width) (s .args .n) (s .args .count) t (c .before .before .if1 .left) (c .before .if2 .left) (c .if3 .left)) ∙ Bool·not-not (eqb (s .args .count) (s .args .width + 1)))
+    sym (ap not (row-6-none (s .args .kind) (s .args .width) (s .args .n) (s .args .count) t (c .before .before .if1 .left) (c .before .if2 .left) (c .if3 .left)) ∙ Bool·not-not (eqb (s .args .count) (s .args .width + 1)))
 
 pub fits-spec : {M : Type 1} → statement M
 fits-spec =

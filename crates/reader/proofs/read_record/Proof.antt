@@ -12,9 +12,10 @@ use Rattle.srec.specs.Kinds.{kindOf, known}
 use Rattle.srec.specs.Reading.{row6, read}
 use Rattle.reader.specs.declared.Record.the-variants.{Good, Bad}
 use Rattle.reader.specs.Records.{asRecord}
-use Rattle.reader.proofs.KindLaws.{known-type, unknown-type, six-inv}
+use Rattle.reader.proofs.KindLaws.{known-type, unknown-type, row-6-inv}
 use Rattle.reader.proofs.WalkLaws.{rest}
-use Rattle.reader.proofs.ReadLaws.{at-place, too-long, too-short, no-letter, no-type, Head, no-digit, count-at, wrong-length, Sized, wrong-checksum, good-record}
+use Rattle.reader.proofs.FieldLaws.{count, count-at}
+use Rattle.reader.proofs.ReadLaws.{at-place, row-3, row-4-short, row-4-letter, row-4-type, Head, row-5, row-6, Sized, row-7, good-record}
 use borrow.Author.Needs.{needs}
 use Rattle.reader.proofs.read_record.Statement.{statement}
 use Rattle.reader.proofs.read_record.Tie as tie
@@ -41,27 +42,27 @@ sized-at c =
     let h : Head (s .args .chars .now) (c .before .before .before .before .before .before .before .before .before .width-of .result) = head-at (e .before .before .before) in
     let six : row6 (known (kindOf (getD (s .args .chars .now) 1 0))) (length (s .args .chars .now)) (c .before .before .byte-of .result) ≡ false
     = not-true _ (sym (c .before .fits2 .ensures) ∙ not-false _ (c .if6 .left)) in
-    let k = six-inv _ (c .before .before .before .before .before .before .before .before .before .width-of .result) (length (s .args .chars .now)) (c .before .before .byte-of .result) (h .type-known) six in
+    let k = row-6-inv _ (c .before .before .before .before .before .before .before .before .before .width-of .result) (length (s .args .chars .now)) (c .before .before .byte-of .result) (h .type-known) six in
     record {
       head = h;
       digits = digits-at e;
-      count-is = c .before .before .byte-of .ensures ∙ count-at (s .args .chars .now) (c .before .before .before .before .before .before .before .before .before .width-of .result) h;
+      count-is = c .before .before .byte-of .ensures ∙ count-at (s .args .chars .now) (h .four);
       six = six;
       long = k .0;
       least = k .1;
     }
 
 returns : tie.Need-returns
-returns c = at-place _ (too-long _ (omega arith))
+returns c = at-place _ (row-3 _ (omega arith))
 
 returns-2 : tie.Need-returns-2
-returns-2 c = at-place _ (too-short _ (omega arith) (omega arith))
+returns-2 c = at-place _ (row-4-short _ (omega arith) (omega arith))
 
 shared-slice-read-if3 : tie.Need-shared-slice-read-if3
 shared-slice-read-if3 c = search needs
 
 returns-3 : tie.Need-returns-3
-returns-3 c = at-place _ (no-letter _ (omega arith) (omega arith) (c .if3 .taken))
+returns-3 c = at-place _ (row-4-letter _ (omega arith) (omega arith) (c .if3 .taken))
 
 shared-slice-read-kind : tie.Need-shared-slice-read-kind
 shared-slice-read-kind c = search needs
@@ -70,7 +71,7 @@ width-of-requires : tie.Need-width-of-requires
 width-of-requires c κs = search needs
 
 returns-4 : tie.Need-returns-4
-returns-4 c = at-place _ (no-type _ (omega arith) (omega arith) (c .before .before .before .if3 .left) (unknown-type _ _ (c .before .width-of .ensures .0) (c .if4 .taken)))
+returns-4 c = at-place _ (row-4-type _ (omega arith) (omega arith) (c .before .before .before .if3 .left) (unknown-type _ _ (c .before .width-of .ensures .0) (c .if4 .taken)))
 
 sub-first-bad : tie.Need-sub-first-bad
 sub-first-bad c = search needs
@@ -87,11 +88,11 @@ first-bad-requires c κs = search needs
 sub-if5 : tie.Need-sub-if5
 sub-if5 c = search needs
 
-add-t19 : tie.Need-add-t19
-add-t19 c = search needs
-
 add-t20 : tie.Need-add-t20
 add-t20 c = search needs
+
+add-t21 : tie.Need-add-t21
+add-t21 c = search needs
 
 returns-5 : tie.Need-returns-5
 returns-5 c =
@@ -99,7 +100,7 @@ returns-5 c =
     let w = c .before .before .before .before .width-of .result in
     let e = bad-at (c .before) in
     ap (λ (n : ℕ). Bad 5 (c .before .before .before .before .before .before .before .before .before .before .before .args .place + (2 + n))) e
-    ∙ ap (asRecord (c .before .before .before .before .before .before .before .before .before .before .before .args .place)) (no-digit l w (head-at (c .before .before .before)) (omega (arith, c .if5 .taken, e, length-drop 2 l)))
+    ∙ ap (asRecord (c .before .before .before .before .before .before .before .before .before .before .before .args .place)) (row-5 l w (head-at (c .before .before .before)) (omega (arith, c .if5 .taken, e, length-drop 2 l)))
 
 shared-slice-read-byte-of : tie.Need-shared-slice-read-byte-of
 shared-slice-read-byte-of c = search needs
@@ -123,10 +124,10 @@ returns-6 c =
     let l = c .before .before .before .before .before .before .before .before .before .before .before .before .before .before .before .before .args .chars .now in
     let w = c .before .before .before .before .before .before .before .before .before .width-of .result in
     let h = head-at (c .before .before .before .before .before .before .before .before) in
-    let n : c .before .before .byte-of .result ≡ getD (bytes (drop 2 l)) 0 0 = c .before .before .byte-of .ensures ∙ count-at l w h in
+    let n : c .before .before .byte-of .result ≡ count l = c .before .before .byte-of .ensures ∙ count-at l (h .four) in
     let six : row6 (known (kindOf (getD l 1 0))) (length l) (c .before .before .byte-of .result) ≡ true
     = not-false _ (sym (c .before .fits2 .ensures) ∙ not-true _ (c .if6 .taken)) in
-    at-place _ (wrong-length l w h (digits-at (c .before .before .before .before .before)) (rw n at six))
+    at-place _ (row-6 l w h (digits-at (c .before .before .before .before .before)) (rw n at six))
 
 mul-end : tie.Need-mul-end
 mul-end c = search needs
@@ -165,7 +166,7 @@ returns-7 : tie.Need-returns-7
 returns-7 c =
     let l = c .before .before .before .before .before .before .before .before .before .before .before .before .before .before .before .before .before .before .before .before .before .before .args .chars .now in
     let s : c .before .sum-pairs .result ≡ sum (bytes (take (2 * c .before .before .before .before .before .before .before .before .byte-of .result) (drop 2 l))) % 256 = rw add-sub-cancel-left at (c .before .sum-pairs .ensures) in
-    at-place _ (wrong-checksum l _ _ (sized-at (c .before .before .before .before .before .before)) (λ e. c .if7 .taken (c .before .before .before .byte-of2 .ensures ∙ e ∙ ap (λ (n : ℕ). 255 - n) (sym s))))
+    at-place _ (row-7 l _ _ (sized-at (c .before .before .before .before .before .before)) (λ e. c .if7 .taken (c .before .before .before .byte-of2 .ensures ∙ e ∙ ap (λ (n : ℕ). 255 - n) (sym s))))
 
 mul-data : tie.Need-mul-data
 mul-data c = search needs
@@ -185,11 +186,11 @@ part-number-of-end c = omega (arith, sized-at (c .before .before .before .before
 number-of-requires : tie.Need-number-of-requires
 number-of-requires c κs = search needs
 
-add-t16 : tie.Need-add-t16
-add-t16 c = search needs
+add-t17 : tie.Need-add-t17
+add-t17 c = search needs
 
-sub-t38 : tie.Need-sub-t38
-sub-t38 c = sized-at (c .before .before .before .before .before .before .before .before) .least
+sub-t31 : tie.Need-sub-t31
+sub-t31 c = sized-at (c .before .before .before .before .before .before .before .before) .least
 
 returns-8 : tie.Need-returns-8
 returns-8 c =
@@ -217,8 +218,8 @@ read-record-spec =
     part-first-bad-end
     first-bad-requires
     sub-if5
-    add-t19
     add-t20
+    add-t21
     returns-5
     shared-slice-read-byte-of
     shared-slice-read-byte-of-2
@@ -244,6 +245,6 @@ read-record-spec =
     part-number-of-start
     part-number-of-end
     number-of-requires
-    add-t16
-    sub-t38
+    add-t17
+    sub-t31
     returns-8)

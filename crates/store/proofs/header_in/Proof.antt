@@ -1,9 +1,10 @@
 -- `header_in` meets its contract: no S0 has no header, and an S0 its data bytes.
 use mathlib.Core.Path.{sym, _∙_}
 use native.Mathlib.Omega.{arith}
-use lib.ListN.{length-take}
+use lib.ListN.{length-take, length-drop}
+use lib.Seq.{length-take-le}
 use Rattle.reader.proofs.FieldLaws.{Got, got}
-use Rattle.store.proofs.HeaderLaws.{header-bad, header-other, header-s0}
+use Rattle.store.proofs.HeaderLaws.{zeros, header-bad, header-other, header-s0}
 use borrow.Author.Needs.{needs}
 use Rattle.store.proofs.header_in.Statement.{statement}
 use Rattle.store.proofs.header_in.Tie as tie
@@ -33,22 +34,30 @@ mul-end c = let r = got-at (c .before .before) in record { fits = omega (arith, 
 add-end : tie.Need-add-end
 add-end c = let r = got-at (c .before .before) in record { fits = omega (arith, r .small .1) }
 
-sub-padded : tie.Need-sub-padded
-sub-padded c = search needs
+array-borrow-prefix-bytes : tie.Need-array-borrow-prefix-bytes
+array-borrow-prefix-bytes c = let r = got-at (c .before .before) in omega (arith, r .small .1)
 
-part-padded-start : tie.Need-part-padded-start
-part-padded-start c = search needs
+slice-aggregate-store-pairs : tie.Need-slice-aggregate-store-pairs
+slice-aggregate-store-pairs c = let r = got-at (c .before .before .before) in sym (length-take-le _ zeros (r .small .1))
 
-part-padded-end : tie.Need-part-padded-end
-part-padded-end c = let r = got-at (c .before .before) in omega (arith, r .fields .long, r .small .2, r .len)
+sub-store-pairs : tie.Need-sub-store-pairs
+sub-store-pairs c = search needs
 
-padded-requires : tie.Need-padded-requires
-padded-requires c κs =
-    let r = got-at (c .before .before .before) in
-    (c .before .before .before .before .before .before .before .pre, rw length-take (omega (arith, r .small .1)))
+part-store-pairs-start : tie.Need-part-store-pairs-start
+part-store-pairs-start c = search needs
+
+part-store-pairs-end : tie.Need-part-store-pairs-end
+part-store-pairs-end c = let r = got-at (c .before .before .before) in omega (arith, r .fields .long, r .small .2, r .len)
+
+store-pairs-requires : tie.Need-store-pairs-requires
+store-pairs-requires c κs =
+    let r = got-at (c .before .before .before .before) in (
+      c .before .before .before .before .before .before .before .before .pre,
+      rw length-take (omega (arith, length-take-le _ zeros (r .small .1), r .fields .long, r .small .2, r .len, length-drop 8 (c .before .before .before .before .before .before .before .before .args .chars .now))),
+    )
 
 returns-3 : tie.Need-returns-3
-returns-3 c = header-s0 _ _ _ _ (got-at (c .before .before .before .before)) (c .before .before .if1 .left) _ (c .padded .ensures)
+returns-3 c = header-s0 _ _ _ _ (got-at (c .before .before .before .before .before .before)) (c .before .before .before .before .if1 .left) _ (c .before .store-pairs .ensures)
 
 pub header-in-spec : {M : Type 1} → statement M
 header-in-spec =
@@ -61,8 +70,10 @@ header-in-spec =
     returns-2
     mul-end
     add-end
-    sub-padded
-    part-padded-start
-    part-padded-end
-    padded-requires
+    array-borrow-prefix-bytes
+    slice-aggregate-store-pairs
+    sub-store-pairs
+    part-store-pairs-start
+    part-store-pairs-end
+    store-pairs-requires
     returns-3)

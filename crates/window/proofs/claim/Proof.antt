@@ -9,7 +9,7 @@ use lib.ListN.{length, take, drop}
 use lib.Seq.{drop-drop, length-take-le}
 use Rattle.window.specs.Images.{over}
 use Rattle.window.specs.Marks.{isFree}
-use Rattle.window.proofs.MarkLaws.{lent-filled, claim-none, claim-low, claim-high, claim-taken, claim-free}
+use Rattle.window.proofs.MarkLaws.{lent-filled, claim-none, row-12-low, row-12-high, row-13, claim-free}
 use borrow.Author.Needs.{needs}
 use Rattle.window.proofs.claim.Statement.{statement}
 use Rattle.window.proofs.claim.Tie as tie
@@ -18,12 +18,12 @@ returns : tie.Need-returns
 returns c = let a = c .before .before .args in claim-none (a .base) (a .marks .now) (a .address) (a .count) (c .if1 .taken)
 
 returns-2 : tie.Need-returns-2
-returns-2 c = let a = c .before .before .before .args in claim-low (a .base) (a .marks .now) (a .address) (a .count) (c .before .if1 .left) (c .if2 .taken)
+returns-2 c = let a = c .before .before .before .args in row-12-low (a .base) (a .marks .now) (a .address) (a .count) (c .before .if1 .left) (c .if2 .taken)
 
 returns-3 : tie.Need-returns-3
 returns-3 c =
     let a = c .before .before .before .before .args in
-    claim-high (a .base) (a .marks .now) (a .address) (a .count) (c .before .before .if1 .left) (c .before .if2 .left) (omega arith)
+    row-12-high (a .base) (a .marks .now) (a .address) (a .count) (c .before .before .if1 .left) (c .before .if2 .left) (omega arith)
 
 sub-if4 : tie.Need-sub-if4
 sub-if4 c = search needs
@@ -31,7 +31,7 @@ sub-if4 c = search needs
 returns-4 : tie.Need-returns-4
 returns-4 c =
     let a = c .before .before .before .before .before .args in
-    claim-high (a .base) (a .marks .now) (a .address) (a .count) (c .before .before .before .if1 .left) (c .before .before .if2 .left) (omega arith)
+    row-12-high (a .base) (a .marks .now) (a .address) (a .count) (c .before .before .before .if1 .left) (c .before .before .if2 .left) (omega arith)
 
 add-to : tie.Need-add-to
 add-to c = search needs
@@ -57,7 +57,7 @@ returns-5 c =
     let a = e .before .before .before .before .before .args in
     let f : isFree (take (a .count) (drop (a .address - a .base) (a .marks .now))) ≡ false
     = rw add-sub-cancel-left at (sym (c .before .is-free .ensures) ∙ not-true _ (c .if5 .taken)) in
-    claim-taken (a .base) (a .marks .now) (a .address) (a .count) (e .before .before .before .if1 .left) (e .before .before .if2 .left) (omega arith) f
+    row-13 (a .base) (a .marks .now) (a .address) (a .count) (e .before .before .before .if1 .left) (e .before .before .if2 .left) (omega arith) f
 
 sub-fill : tie.Need-sub-fill
 sub-fill c = search needs

@@ -3,9 +3,10 @@ use mathlib.Core.Path.{_≡_}
 use Prim.Native.Nat.{_+_, _-_, _≤_, _<_}
 use native.Mathlib.Omega.{arith}
 use lib.ListN.{length, drop}
-use Rattle.write.specs.Walks.{windowOf, shown, gap}
-use Rattle.write.specs.Sizes.{dataText}
-use Rattle.write.proofs.RunWalkLaws.{cellsFrom, next-bounds, run-bounds, length-run}
+use Rattle.window.specs.Windows.{windowOf}
+use Rattle.measure.specs.Walks.{shown, gap}
+use Rattle.write.specs.Pieces.{dataText}
+use Rattle.measure.proofs.RunWalkLaws.{cellsFrom, next-bounds, run-bounds, length-run}
 use Rattle.write.proofs.PieceLaws.{Pending, data-start, data-room, data-more, data-end}
 use Rattle.write.proofs.put_cells.Statement.{statement}
 use Rattle.write.proofs.put_cells.Tie as tie

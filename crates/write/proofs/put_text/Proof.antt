@@ -4,13 +4,13 @@ use native.Mathlib.Omega.{arith}
 use mathlib.Core.List.{List, [], _++_}
 use lib.ListN.{length}
 use borrow.Author.Needs.{needs}
-use Rattle.window.specs.Windows.{Window}
+use Rattle.window.specs.Windows.{Window, windowOf}
 use Rattle.srec.specs.Canonical.{largest}
 use Rattle.srec.specs.Write.{textOf}
 use Rattle.srec.proofs.RunLaws.{width-is}
 use Rattle.emit.specs.Records.{lineOf}
-use Rattle.write.specs.Walks.{windowOf, shown}
-use Rattle.write.specs.Sizes.{dataText, countText}
+use Rattle.measure.specs.Walks.{shown}
+use Rattle.write.specs.Pieces.{dataText, countText}
 use Rattle.write.proofs.PieceLaws.{text-pieces, Pending, pending-start, pending-room, pending-more, line-room, line-more, pending-end}
 use Rattle.write.proofs.put_text.Statement.{statement}
 use Rattle.write.proofs.put_text.Tie as tie

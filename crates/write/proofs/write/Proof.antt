@@ -5,16 +5,16 @@ use native.Mathlib.Omega.{arith}
 use mathlib.Core.List.{List}
 use lib.ListN.{length}
 use borrow.Author.Needs.{needs}
-use Rattle.window.specs.Windows.{Window, Allowed, firstBadMark}
+use Rattle.window.specs.Windows.{Window, Allowed, firstBadMark, windowOf}
 use Rattle.window.specs.Plans.{refusal}
 use Rattle.window.proofs.ViewLaws.{allowed-is}
 use Rattle.srec.specs.Canonical.{widthFor}
 use Rattle.srec.specs.Write.{textOf}
 use Rattle.srec.proofs.RunLaws.{width-is}
-use Rattle.write.specs.declared.Size.{Size}
-use Rattle.write.specs.Walks.{windowOf, shown}
-use Rattle.write.specs.Sizes.{sizeOf}
-use Rattle.write.proofs.WriteLaws.{need-is, refused-1-lengths, refused-1-reach, refused-15, refused-16, refused-17, is-written, declines, accepts}
+use Rattle.measure.specs.declared.Size.{Size}
+use Rattle.measure.specs.Walks.{shown}
+use Rattle.measure.specs.Sizes.{sizeOf}
+use Rattle.write.proofs.WriteLaws.{need-is, row-1-lengths, row-1-reach, row-15, row-16, row-17, is-written, declines, accepts}
 use Rattle.write.proofs.write.Statement.{statement}
 use Rattle.write.proofs.write.Tie as tie
 
@@ -35,7 +35,7 @@ refused-requires c κs = search needs
 returns : tie.Need-returns
 returns c =
     let a = c .before .before .before .before .before .before .args in
-    declines (a .base) (a .memory .now) (a .marks .now) (a .header .now) (a .entry) (length (a .out .now)) (refusal 1 0 0) (c .refused .result) (a .out .now) (refused-1-lengths (a .base) (a .memory .now) (a .marks .now) (a .header .now) (a .entry) (length (a .out .now)) (c .before .if1 .taken)) (c .refused .ensures)
+    declines (a .base) (a .memory .now) (a .marks .now) (a .header .now) (a .entry) (length (a .out .now)) (refusal 1 0 0) (c .refused .result) (a .out .now) (row-1-lengths (a .base) (a .memory .now) (a .marks .now) (a .header .now) (a .entry) (length (a .out .now)) (c .before .if1 .taken)) (c .refused .ensures)
 
 add-if2 : tie.Need-add-if2
 add-if2 c = search needs
@@ -46,7 +46,7 @@ refused-requires-2 c κs = search needs
 returns-2 : tie.Need-returns-2
 returns-2 c =
     let a = c .before .before .before .before .before .before .before .args in
-    declines (a .base) (a .memory .now) (a .marks .now) (a .header .now) (a .entry) (length (a .out .now)) (refusal 1 0 0) (c .refused2 .result) (a .out .now) (refused-1-reach (a .base) (a .memory .now) (a .marks .now) (a .header .now) (a .entry) (length (a .out .now)) (c .before .before .if1 .left) (c .before .if2 .taken)) (c .refused2 .ensures)
+    declines (a .base) (a .memory .now) (a .marks .now) (a .header .now) (a .entry) (length (a .out .now)) (refusal 1 0 0) (c .refused2 .result) (a .out .now) (row-1-reach (a .base) (a .memory .now) (a .marks .now) (a .header .now) (a .entry) (length (a .out .now)) (c .before .before .if1 .left) (c .before .if2 .taken)) (c .refused2 .ensures)
 
 refused-requires-3 : tie.Need-refused-requires-3
 refused-requires-3 c κs = search needs
@@ -54,7 +54,7 @@ refused-requires-3 c κs = search needs
 returns-3 : tie.Need-returns-3
 returns-3 c =
     let a = c .before .before .before .before .before .before .before .before .args in
-    declines (a .base) (a .memory .now) (a .marks .now) (a .header .now) (a .entry) (length (a .out .now)) (refusal 15 0 0) (c .refused3 .result) (a .out .now) (refused-15 (a .base) (a .memory .now) (a .marks .now) (a .header .now) (a .entry) (length (a .out .now)) (allowed (c .before .before)) (c .before .if3 .taken)) (c .refused3 .ensures)
+    declines (a .base) (a .memory .now) (a .marks .now) (a .header .now) (a .entry) (length (a .out .now)) (refusal 15 0 0) (c .refused3 .result) (a .out .now) (row-15 (a .base) (a .memory .now) (a .marks .now) (a .header .now) (a .entry) (length (a .out .now)) (allowed (c .before .before)) (c .before .if3 .taken)) (c .refused3 .ensures)
 
 first-bad-mark-requires : tie.Need-first-bad-mark-requires
 first-bad-mark-requires c κs = search needs
@@ -67,7 +67,7 @@ returns-4 c =
     let a = c .before .before .before .before .before .before .before .before .before .before .args in
     let bad = c .before .before .first-bad-mark .ensures in
     declines (a .base) (a .memory .now) (a .marks .now) (a .header .now) (a .entry) (length (a .out .now)) (refusal 16 0 (firstBadMark (a .marks .now))) (c .refused4 .result) (a .out .now)
-    (refused-16 (a .base) (a .memory .now) (a .marks .now) (a .header .now) (a .entry) (length (a .out .now)) (allowed (c .before .before .before .before)) (c .before .before .before .if3 .left) (omega (arith, bad, c .before .if4 .taken))) (rw bad at (c .refused4 .ensures))
+    (row-16 (a .base) (a .memory .now) (a .marks .now) (a .header .now) (a .entry) (length (a .out .now)) (allowed (c .before .before .before .before)) (c .before .before .before .if3 .left) (omega (arith, bad, c .before .if4 .taken))) (rw bad at (c .refused4 .ensures))
 
 measure-requires : tie.Need-measure-requires
 measure-requires c κs = search needs
@@ -98,7 +98,7 @@ returns-5 c =
     let a = c .before .before .before .before .before .before .before .before .before .before .before .before .before .before .args in
     let need = needed (c .before .before) in
     declines (a .base) (a .memory .now) (a .marks .now) (a .header .now) (a .entry) (length (a .out .now)) (refusal 17 0 (length (text (c .before .before .before .before .before .before .before .before .before .before .before .before .before .before)))) (c .refused5 .result) (a .out .now)
-    (refused-17 (a .base) (a .memory .now) (a .marks .now) (a .header .now) (a .entry) (length (a .out .now)) (allowed (c .before .before .before .before .before .before .before .before)) (c .before .before .before .before .before .before .before .if3 .left) (omega (arith, c .before .before .before .before .before .before .first-bad-mark .ensures, c .before .before .before .before .before .if4 .left)) (omega (arith, need, c .before .if5 .taken)))
+    (row-17 (a .base) (a .memory .now) (a .marks .now) (a .header .now) (a .entry) (length (a .out .now)) (allowed (c .before .before .before .before .before .before .before .before)) (c .before .before .before .before .before .before .before .if3 .left) (omega (arith, c .before .before .before .before .before .before .first-bad-mark .ensures, c .before .before .before .before .before .if4 .left)) (omega (arith, need, c .before .if5 .taken)))
     (rw need at (c .refused5 .ensures))
 
 put-text-requires : tie.Need-put-text-requires

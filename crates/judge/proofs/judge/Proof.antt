@@ -1,0 +1,124 @@
+-- `judge` meets its contract: each way out is one law of JudgeLaws.
+use mathlib.Core.Path.{_≡_, sym, ap, _∙_}
+use Prim.Native.Nat.{ℕ, _+_, _*_, _^_, _≤_, _<_}
+use native.Mathlib.Omega.{arith}
+use mathlib.Core.Bool.{true, false, not, _&&_}
+use mathlib.Core.Logic.{inl, inr}
+use lib.Dec.{eqb}
+use Rattle.srec.specs.Kinds.{kindOf, known}
+use Rattle.reader.specs.Records.{widthOr0}
+use Rattle.judge.specs.declared.Step.the-variants.{Put}
+use Rattle.judge.proofs.JudgeLaws.{sort-of, row-8, passed-s0, row-10, passed-s5, row-9, Other, other, finished, row-11, stored}
+use borrow.Author.Needs.{needs}
+use Rattle.judge.proofs.judge.Statement.{statement}
+use Rattle.judge.proofs.judge.Tie as tie
+
+add-number : tie.Need-add-number
+add-number c = search needs
+
+returns : tie.Need-returns
+returns c =
+    let s = c .before .before .before .before in
+    let a = s .args in
+    let t = sort-of (a .kind) (s .pre .0) in
+    row-8 (a .state) (known (kindOf (a .kind))) (a .address) (a .count) (t .s0 (c .before .before .if1 .taken)) (c .if2 .taken)
+
+returns-2 : tie.Need-returns-2
+returns-2 c =
+    let s = c .before .before .before .before in
+    let a = s .args in
+    let t = sort-of (a .kind) (s .pre .0) in
+    passed-s0 (a .state) (known (kindOf (a .kind))) (a .address) (a .count) (t .s0 (c .before .before .if1 .taken)) (c .if2 .left)
+
+returns-3 : tie.Need-returns-3
+returns-3 c =
+    let s = c .before .before .before .before .before in
+    let a = s .args in
+    let t = sort-of (a .kind) (s .pre .0) in
+    row-10 (a .state) (known (kindOf (a .kind))) (a .address) (a .count) (t .s5 (c .before .before .if3 .taken)) (c .if4 .taken)
+
+returns-4 : tie.Need-returns-4
+returns-4 c =
+    let s = c .before .before .before .before .before in
+    let a = s .args in
+    let t = sort-of (a .kind) (s .pre .0) in
+    passed-s5 (a .state) (known (kindOf (a .kind))) (a .address) (a .count) (t .s5 (c .before .before .if3 .taken)) (c .if4 .left)
+
+width-of-requires : tie.Need-width-of-requires
+width-of-requires c κs = search needs
+
+differs-requires : tie.Need-differs-requires
+differs-requires c κs = search needs
+
+returns-5 : tie.Need-returns-5
+returns-5 c =
+    let s = c .before .before .before .before .before .before in
+    let a = s .args in
+    let t = sort-of (a .kind) (s .pre .0) in
+    let w : widthOr0 (kindOf (a .kind)) ≡ c .before .before .width-of .result = sym (c .before .before .width-of .ensures .0) in
+    let d : (not (eqb (a .state .width) 0) && not (eqb (a .state .width) (widthOr0 (kindOf (a .kind))))) ≡ true = rw w (sym (c .before .differs .ensures) ∙ c .if5 .taken) in
+    row-9 (a .state) (known (kindOf (a .kind))) (a .address) (a .count) _ (other (a .state) (known (kindOf (a .kind))) (a .address) (a .count) (a .kind) t (c .before .before .before .before .if1 .left) (c .before .before .before .if3 .left)) d
+
+returns-6 : tie.Need-returns-6
+returns-6 c =
+    let s = c .before .before .before .before .before .before .before in
+    let a = s .args in
+    let t = sort-of (a .kind) (s .pre .0) in
+    let w : widthOr0 (kindOf (a .kind)) ≡ c .before .before .before .width-of .result = sym (c .before .before .before .width-of .ensures .0) in
+    let d : (not (eqb (a .state .width) 0) && not (eqb (a .state .width) (widthOr0 (kindOf (a .kind))))) ≡ false = rw w (sym (c .before .before .differs .ensures) ∙ c .before .if5 .left) in
+    finished (a .state) (known (kindOf (a .kind))) (a .address) (a .count) _ (t .end-is (c .if6 .taken)) d
+
+add-if7 : tie.Need-add-if7
+add-if7 c = search needs
+
+limit-requires : tie.Need-limit-requires
+limit-requires c κs =
+    let s = c .before .before .before .before .before .before .before in
+    let t = sort-of (s .args .kind) (s .pre .0) in
+    let w = c .before .before .before .width-of .ensures .0 in
+    (omega (arith, t .low, w), omega (arith, t .high, w))
+
+returns-7 : tie.Need-returns-7
+returns-7 c =
+    let s = c .before .before .before .before .before .before .before .before .before in
+    let a = s .args in
+    let t = sort-of (a .kind) (s .pre .0) in
+    let w : widthOr0 (kindOf (a .kind)) ≡ c .before .before .before .before .before .width-of .result = sym (c .before .before .before .before .before .width-of .ensures .0) in
+    let d : (not (eqb (a .state .width) 0) && not (eqb (a .state .width) (widthOr0 (kindOf (a .kind))))) ≡ false = rw w (sym (c .before .before .before .before .differs .ensures) ∙ c .before .before .before .if5 .left) in
+    row-11 (a .state) (known (kindOf (a .kind))) (a .address) (a .count) _ (t .data-is (c .before .before .before .before .before .before .before .if1 .left) (c .before .before .before .before .before .before .if3 .left) (c .before .before .if6 .left)) d (rw w (rw (c .before .limit .ensures) at (c .if7 .taken)))
+
+add-t13 : tie.Need-add-t13
+add-t13 c = search needs
+
+add-t14 : tie.Need-add-t14
+add-t14 c = search needs
+
+returns-8 : tie.Need-returns-8
+returns-8 c =
+    let s = c .before .before .before .before .before .before .before .before .before .before .before in
+    let a = s .args in
+    let t = sort-of (a .kind) (s .pre .0) in
+    let w : widthOr0 (kindOf (a .kind)) ≡ c .before .before .before .before .before .before .before .width-of .result = sym (c .before .before .before .before .before .before .before .width-of .ensures .0) in
+    let d : (not (eqb (a .state .width) 0) && not (eqb (a .state .width) (widthOr0 (kindOf (a .kind))))) ≡ false = rw w (sym (c .before .before .before .before .before .before .differs .ensures) ∙ c .before .before .before .before .before .if5 .left) in
+    let k = t .data-is (c .before .before .before .before .before .before .before .before .before .if1 .left) (c .before .before .before .before .before .before .before .before .if3 .left) (c .before .before .before .before .if6 .left) in
+    rw (← w) (stored (a .state) (known (kindOf (a .kind))) (a .address) (a .count) _ k d (rw w (rw (c .before .before .before .limit .ensures) at (c .before .before .if7 .left))))
+
+pub judge-spec : {M : Type 1} → statement M
+judge-spec =
+    tie.close
+    (tie.spec
+    add-number
+    returns
+    returns-2
+    returns-3
+    returns-4
+    width-of-requires
+    differs-requires
+    returns-5
+    returns-6
+    add-if7
+    limit-requires
+    returns-7
+    add-t13
+    add-t14
+    returns-8)

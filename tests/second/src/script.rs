@@ -1,0 +1,105 @@
+//! The form in which the program `vectors` takes its cases and prints its
+//! answers: crates/vectors/src/main.rt says which.
+
+use crate::reading::{load, write, Loaded, Refusal};
+
+/// The room that `vectors` has for its input, a window and a canonical text.
+pub const ROOM: usize = 65_536;
+
+/// A text, and the window that it is loaded into.
+#[derive(Clone, Debug, PartialEq, Eq)]
+pub struct Case {
+    pub name: String,
+    pub base: u32,
+    pub cells: usize,
+    pub text: Vec<u8>,
+}
+
+impl Case {
+    /// None for a text with `@` in it, or a window that is too large.
+    pub fn new(name: String, base: u32, cells: usize, text: Vec<u8>) -> Option<Case> {
+        let fits = cells <= ROOM && !text.contains(&b'@');
+        fits.then_some(Case {
+            name,
+            base,
+            cells,
+            text,
+        })
+    }
+
+    fn heading(&self) -> String {
+        format!("@{:08X}:{:08X} {}\n", self.base, self.cells, self.name)
+    }
+
+    /// The case as `vectors` reads it.
+    pub fn script(&self) -> Vec<u8> {
+        [self.heading().as_bytes(), &self.text].concat()
+    }
+
+    /// What `vectors` has to print for it.
+    pub fn answer(&self) -> Vec<u8> {
+        let (mut memory, mut marks) = (vec![0; self.cells], vec![0; self.cells]);
+        let loaded = load(&self.text, self.base, &mut memory, &mut marks);
+        let mut printed = self.heading() + &answer_line(&loaded);
+        if loaded.refusal.number != 0 {
+            return printed.into_bytes();
+        }
+        let header = &loaded.header[..loaded.header_len];
+        let mut out = vec![0; ROOM];
+        let written = write(self.base, &memory, &marks, header, loaded.entry, &mut out);
+        if written.number != 0 {
+            let refusal = Refusal {
+                number: written.number,
+                record: 0,
+                place: written.place,
+            };
+            printed += &(refusal_words(&refusal) + "\n");
+        }
+        [printed.as_bytes(), &out[..written.length]].concat()
+    }
+}
+
+/// The cases of a whole input.
+pub fn parse(script: &[u8]) -> Option<Vec<Case>> {
+    let mut cases = script.split(|&c| c == b'@');
+    // Nothing stands before the first `@`.
+    cases.next().filter(|before| before.is_empty())?;
+    cases.map(parse_case).collect()
+}
+
+fn parse_case(script: &[u8]) -> Option<Case> {
+    let end = script.iter().position(|&c| c == b'\n')?;
+    let heading = std::str::from_utf8(&script[..end]).ok()?;
+    let (base, rest) = heading.split_once(':')?;
+    let (cells, name) = rest.split_once(' ')?;
+    Case::new(
+        name.to_string(),
+        u32::from_str_radix(base, 16).ok()?,
+        usize::from_str_radix(cells, 16).ok()?,
+        script[end + 1..].to_vec(),
+    )
+}
+
+fn refusal_words(refusal: &Refusal) -> String {
+    let Refusal {
+        number,
+        record,
+        place,
+    } = refusal;
+    format!("{number} record {record} at {place}")
+}
+
+/// Every field of the answer, the header without the zeros at its end.
+fn answer_line(loaded: &Loaded) -> String {
+    let end = loaded.header.iter().rposition(|&byte| byte != 0);
+    let header = &loaded.header[..end.map_or(0, |last| last + 1)];
+    let header: String = header.iter().map(|byte| format!("{byte:02x}")).collect();
+    format!(
+        "{} records {} cells {} entry {:08x} header {}:{header}\n",
+        refusal_words(&loaded.refusal),
+        loaded.records,
+        loaded.cells,
+        loaded.entry,
+        loaded.header_len,
+    )
+}
