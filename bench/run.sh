@@ -1,0 +1,26 @@
+#!/bin/sh
+# run.sh [--quick] [ROUNDS]: compiles the library's twins and compares them with it. See README.md.
+# SREC_LIB_DIR names another folder for libcapi.a; if there is none, 'rt staticlib capi' proves and builds it.
+set -eu
+root=$(cd "$(dirname "$0")/.." && pwd)
+library=${SREC_LIB_DIR:-$root/target/staticlib}/libcapi.a
+[ -f "$library" ] || (cd "$root" && rt staticlib capi >&2)
+bin=$(mktemp -d)
+trap 'rm -rf "$bin"' EXIT
+trap 'exit 2' HUP INT TERM
+
+compile() { # NAME SOURCE WORDS..
+    name=$1 source=$2
+    shift 2
+    gcc -O2 -std=c11 -Wall -Wextra -Werror -I "$root/include" "$@" -c "$root/bench/$source.c" -o "$bin/$name.o"
+}
+
+compile plain plain
+compile table plain -DTABLE
+compile tuned tuned
+compile generate generate
+compile compare compare
+gcc "$bin"/*.o "$library" -o "$bin/compare"
+
+gcc --version | head -n 1
+"$bin/compare" "$@"
