@@ -1,7 +1,8 @@
 /* compare [--quick] [ROUNDS]: the library and its twins on the same texts, in turn, in one process.
  *
- * Prints Markdown tables. A time is the minimum of ROUNDS rounds; in a round each program runs once. All must give equal
- * results before they are timed; if they do not, the exit status is 1. --quick leaves out texts of more than 1 MiB.
+ * Prints Markdown tables. A time is the minimum over ROUNDS rounds. A round goes through all texts, and on each text
+ * through all programs, so that a disturbance of some seconds hits all of them, and one round alone. Before they are
+ * timed all programs must give equal results, else the exit status is 1. --quick leaves out texts above 1 MiB.
  */
 #define _POSIX_C_SOURCE 200809L
 #include <stdio.h>
@@ -13,7 +14,9 @@
 #include "srec.h"
 #include "twin.h"
 
-enum { MIB = 1 << 20, ROUNDS = 9, MOST_ROUNDS = 10000 };
+enum { MIB = 1 << 20, ROUNDS = 5, MOST_ROUNDS = 10000 };
+/* In a round texts below SMALL MiB run MORE times: their time is short, and a disturbance is a large part of it. */
+enum { SMALL = 16, MORE = 4 };
 enum { UNEQUAL = 1, TROUBLE = 2 };
 enum { LIBRARY, PLAIN, TABLE, TUNED, PROGRAMS };
 enum { LOAD, WRITE, OPERATIONS };
@@ -33,15 +36,23 @@ static const struct program {
 static const char *const operations[OPERATIONS] = {"load", "write"};
 static const char *const orders[] = {"in order", "sparse", "shuffled"};
 
+/* A text, and the best times in seconds of the first so many programs on it. */
+struct trial {
+    enum order order;
+    size_t mib;
+    size_t size;
+    int programs;
+    struct text text;
+    double best[OPERATIONS][PROGRAMS];
+};
+
 /* ---- running ---- */
 
-/* A window from address 0 on, and an output with room enough. */
+/* Long enough for each text. All programs use the same ones. */
 struct buffers {
     uint8_t *memory;
     uint8_t *marks;
-    size_t length;
     uint8_t *out;
-    size_t room;
 };
 
 /* Filled, so that no page is met for the first time while the clock runs. */
@@ -56,13 +67,16 @@ static uint8_t *allocate(size_t length)
     return bytes;
 }
 
-static struct buffers allocate_buffers(const struct text *text)
+static struct buffers allocate_buffers(const struct trial *trials, size_t number)
 {
-    size_t size = text->bytes / text->records;
-    size_t most_records = text->records * (size / 16 + 3);
-    size_t room = 37 + 2 * sizeof header + 15 * most_records + 2 * text->bytes;
-    size_t length = text->cells;
-    return (struct buffers){allocate(length), allocate(length), length, allocate(room), room};
+    size_t cells = 0, room = 0;
+
+    for (size_t i = 0; i < number; i++) {
+        const struct text *text = &trials[i].text;
+        cells = text->cells > cells ? text->cells : cells;
+        room = text->room > room ? text->room : room;
+    }
+    return (struct buffers){allocate(cells), allocate(cells), allocate(room)};
 }
 
 static void free_buffers(struct buffers *buffers)
@@ -74,14 +88,14 @@ static void free_buffers(struct buffers *buffers)
 
 static uint32_t run_load(int program, const struct text *text, struct buffers *buffers)
 {
-    return programs[program].load(text->chars, text->length, base, buffers->memory, buffers->length, buffers->marks,
-                                  buffers->length);
+    return programs[program].load(text->chars, text->length, base, buffers->memory, text->cells, buffers->marks,
+                                  text->cells);
 }
 
-static size_t run_write(int program, struct buffers *buffers)
+static size_t run_write(int program, const struct text *text, struct buffers *buffers)
 {
-    return programs[program].write(base, buffers->memory, buffers->length, buffers->marks, buffers->length, header,
-                                   sizeof header, entry, buffers->out, buffers->room);
+    return programs[program].write(base, buffers->memory, text->cells, buffers->marks, text->cells, header,
+                                   sizeof header, entry, buffers->out, text->room);
 }
 
 /* ---- checking ---- */
@@ -97,41 +111,44 @@ static void expect(int holds, int program, const char *what)
 /* Runs a program in buffers that hold nothing of an earlier run, and returns the length of its text. */
 static size_t run_afresh(int program, const struct text *text, struct buffers *buffers)
 {
-    memset(buffers->memory, 0xA5, buffers->length);
-    memset(buffers->marks, 0xA5, buffers->length);
-    memset(buffers->out, 0xA5, buffers->room);
+    memset(buffers->memory, 0xA5, text->cells);
+    memset(buffers->marks, 0xA5, text->cells);
+    memset(buffers->out, 0xA5, text->room);
     expect(run_load(program, text, buffers) == 0, program, "refuses to load");
-    size_t length = run_write(program, buffers);
+    size_t length = run_write(program, text, buffers);
     expect(length != 0, program, "refuses to write");
     return length;
 }
 
-/* All programs must give what the library gives, and the library as many marks as there are data bytes. */
-static void check_equal(const struct text *text, struct buffers *buffers)
+/* The library must mark as many cells as there are data bytes, and the twins must give what it gives. */
+static void check(const struct trial *trial, struct buffers *expected, struct buffers *buffers)
 {
-    struct buffers expected = allocate_buffers(text);
-    size_t expected_length = run_afresh(LIBRARY, text, &expected);
+    const struct text *text = &trial->text;
+    size_t expected_length = run_afresh(LIBRARY, text, expected);
     size_t marked = 0;
 
-    for (size_t i = 0; i < expected.length; i++)
-        marked += expected.marks[i];
+    for (size_t i = 0; i < text->cells; i++)
+        marked += expected->marks[i];
     expect(marked == text->bytes, LIBRARY, "wrong number of marks");
-    for (int program = 0; program < PROGRAMS; program++) {
+    for (int program = PLAIN; program < trial->programs; program++) {
         size_t length = run_afresh(program, text, buffers);
-        expect(memcmp(buffers->memory, expected.memory, expected.length) == 0, program, "other memory than the library");
-        expect(memcmp(buffers->marks, expected.marks, expected.length) == 0, program, "other marks than the library");
-        expect(length == expected_length, program, "other length of text than the library");
-        expect(memcmp(buffers->out, expected.out, expected.room) == 0, program, "other output than the library");
+        expect(memcmp(buffers->memory, expected->memory, text->cells) == 0, program, "memory is not the library's");
+        expect(memcmp(buffers->marks, expected->marks, text->cells) == 0, program, "marks are not the library's");
+        expect(length == expected_length, program, "the length is not the library's");
+        expect(memcmp(buffers->out, expected->out, text->room) == 0, program, "the output is not the library's");
     }
+}
+
+static void check_all(const struct trial *trials, size_t number, struct buffers *buffers)
+{
+    struct buffers expected = allocate_buffers(trials, number);
+
+    for (size_t i = 0; i < number; i++)
+        check(&trials[i], &expected, buffers);
     free_buffers(&expected);
 }
 
 /* ---- timing ---- */
-
-/* Seconds. */
-struct times {
-    double best[OPERATIONS][PROGRAMS];
-};
 
 static double now(void)
 {
@@ -140,119 +157,127 @@ static double now(void)
     return (double)time.tv_sec + 1e-9 * (double)time.tv_nsec;
 }
 
-static void keep_best(double *best, double seconds, int round)
+/* A best time of 0 is none yet. */
+static void keep_best(double *best, double seconds)
 {
-    if (round == 0 || seconds < *best)
+    if (*best == 0 || seconds < *best)
         *best = seconds;
 }
 
-/* Times the first so many programs in turn. A refusal would be no fair time. */
-static struct times measure(const struct text *text, struct buffers *buffers, int count, int rounds)
+/* Times each program once, in turn. */
+static void measure(struct trial *trial, struct buffers *buffers)
 {
-    struct times times;
-
-    for (int round = 0; round < rounds; round++) {
-        for (int program = 0; program < count; program++) {
-            double start = now();
-            uint32_t row = run_load(program, text, buffers);
-            double loaded = now();
-            size_t length = run_write(program, buffers);
-            double written = now();
-            expect(row == 0 && length != 0, program, "refuses what it accepted before");
-            keep_best(&times.best[LOAD][program], loaded - start, round);
-            keep_best(&times.best[WRITE][program], written - loaded, round);
-        }
+    for (int program = 0; program < trial->programs; program++) {
+        double start = now();
+        uint32_t row = run_load(program, &trial->text, buffers);
+        double loaded = now();
+        size_t length = run_write(program, &trial->text, buffers);
+        double written = now();
+        expect(row == 0 && length != 0, program, "refuses what it accepted before");
+        keep_best(&trial->best[LOAD][program], loaded - start);
+        keep_best(&trial->best[WRITE][program], written - loaded);
     }
-    return times;
 }
 
-static struct times check_and_measure(const struct text *text, int count, int rounds)
+static void measure_all(struct trial *trials, size_t number, struct buffers *buffers, long rounds)
 {
-    struct buffers buffers = allocate_buffers(text);
-    check_equal(text, &buffers);
-    struct times times = measure(text, &buffers, count, rounds);
+    for (long round = 1; round <= rounds; round++) {
+        fprintf(stderr, "round %ld of %ld\n", round, rounds);
+        for (size_t i = 0; i < number; i++)
+            for (int again = trials[i].mib < SMALL ? MORE : 1; again > 0; again--)
+                measure(&trials[i], buffers);
+    }
+}
+
+static void run(struct trial *trials, size_t number, long rounds)
+{
+    for (size_t i = 0; i < number; i++)
+        trials[i].text = generate(trials[i].order, trials[i].mib * MIB, trials[i].size);
+    struct buffers buffers = allocate_buffers(trials, number);
+    check_all(trials, number, &buffers);
+    measure_all(trials, number, &buffers, rounds);
     free_buffers(&buffers);
-    return times;
+    for (size_t i = 0; i < number; i++)
+        free(trials[i].text.chars);
 }
 
 /* ---- tables ---- */
 
-/* How many times as fast as each twin the library is, over all texts. */
-struct range {
-    double least;
-    double greatest;
-};
-static struct range ranges[OPERATIONS][PROGRAMS];
-
-static void widen(struct range *range, double ratio)
+/* How many times as fast as a twin the library is. */
+static double ratio(const struct trial *trial, int operation, int twin)
 {
-    if (range->greatest == 0 || ratio < range->least)
-        range->least = ratio;
-    if (ratio > range->greatest)
-        range->greatest = ratio;
+    return trial->best[operation][twin] / trial->best[operation][LIBRARY];
 }
 
-static void print_row(int operation, enum order order, size_t mib, size_t size, const double best[PROGRAMS])
+static double speed(const struct trial *trial, int operation, int program)
 {
-    printf("| %-5s | %-8s | %3zu | %3zu |", operations[operation], orders[order], mib, size);
-    for (int twin = PLAIN; twin < PROGRAMS; twin++) {
-        double ratio = best[twin] / best[LIBRARY];
-        widen(&ranges[operation][twin], ratio);
-        printf(" %5.2f |", ratio);
+    return (double)trial->text.bytes / trial->best[operation][program] / 1e6;
+}
+
+static void print_ranges(const struct trial *trials, size_t number)
+{
+    printf("How many times as fast as each twin the library is, the least and the greatest of all texts:\n\n");
+    printf("| | times plain | times table | times tuned |\n|---|--:|--:|--:|\n");
+    for (int operation = 0; operation < OPERATIONS; operation++) {
+        printf("| %-5s |", operations[operation]);
+        for (int twin = PLAIN; twin < PROGRAMS; twin++) {
+            double least = ratio(&trials[0], operation, twin), greatest = least;
+            for (size_t i = 1; i < number; i++) {
+                double next = ratio(&trials[i], operation, twin);
+                least = next < least ? next : least;
+                greatest = next > greatest ? next : greatest;
+            }
+            printf(" %.2f to %.2f |", least, greatest);
+        }
+        printf("\n");
     }
+}
+
+static void print_row(const struct trial *trial, int operation)
+{
+    printf("| %-5s | %-8s | %2zu | %3zu |", operations[operation], orders[trial->order], trial->mib, trial->size);
+    for (int twin = PLAIN; twin < PROGRAMS; twin++)
+        printf(" %5.2f |", ratio(trial, operation, twin));
     for (int program = 0; program < PROGRAMS; program++)
-        printf(" %7.0f |", (double)(mib * MIB) / best[program] / 1e6);
+        printf(" %5.0f |", speed(trial, operation, program));
     printf("\n");
+}
+
+static void compare(int quick, long rounds)
+{
+    static const size_t sizes[] = {16, 250};
+    struct trial trials[12] = {0};
+    size_t number = 0;
+
+    for (int order = IN_ORDER; order <= SHUFFLED; order++)
+        for (size_t mib = 1; mib <= (quick ? 1 : 16); mib *= 16)
+            for (int i = 0; i < 2; i++)
+                trials[number++] = (struct trial){.order = order, .mib = mib, .size = sizes[i], .programs = PROGRAMS};
+    run(trials, number, rounds);
+    print_ranges(trials, number);
+    printf("\nThe same for each text, and MB of data per second:\n\n");
+    printf("| | order | MiB | record | times plain | times table | times tuned "
+           "| library MB/s | plain MB/s | table MB/s | tuned MB/s |\n");
+    printf("|---|---|--:|--:|--:|--:|--:|--:|--:|--:|--:|\n");
+    for (int operation = 0; operation < OPERATIONS; operation++)
+        for (size_t i = 0; i < number; i++)
+            print_row(&trials[i], operation);
     fflush(stdout);
 }
 
-static void print_comparison(int quick, int rounds)
+static void grow(int quick, long rounds)
 {
-    static const size_t sizes[] = {16, 250};
+    struct trial trials[4] = {0};
+    size_t number = 0;
 
-    printf("Times as fast as each twin, then MB/s of data:\n\n");
-    printf("|       | order    | MiB | record | plain | table | tuned | library | plain | table | tuned |\n");
-    printf("|---|---|--:|--:|--:|--:|--:|--:|--:|--:|--:|\n");
-    for (int order = IN_ORDER; order <= SHUFFLED; order++) {
-        for (size_t mib = 1; mib <= (quick ? 1 : 16); mib *= 16) {
-            for (int i = 0; i < 2; i++) {
-                struct text text = generate((enum order)order, mib * MIB, sizes[i]);
-                struct times times = check_and_measure(&text, PROGRAMS, rounds);
-                for (int operation = 0; operation < OPERATIONS; operation++)
-                    print_row(operation, (enum order)order, mib, sizes[i], times.best[operation]);
-                free(text.chars);
-            }
-        }
-    }
-}
-
-static void print_ranges(void)
-{
-    printf("\nThe least and the greatest of these ratios:\n\n");
-    printf("|       | plain | table | tuned |\n|---|--:|--:|--:|\n");
-    for (int operation = 0; operation < OPERATIONS; operation++) {
-        printf("| %-5s |", operations[operation]);
-        for (int twin = PLAIN; twin < PROGRAMS; twin++)
-            printf(" %.2f to %.2f |", ranges[operation][twin].least, ranges[operation][twin].greatest);
-        printf("\n");
-    }
-}
-
-static void print_growth(int quick, int rounds)
-{
-    printf("\nGrowth, the library alone, in order, records of 16 bytes:\n\n");
+    for (size_t mib = 1; mib <= (quick ? 1 : 64); mib *= 4)
+        trials[number++] = (struct trial){.order = IN_ORDER, .mib = mib, .size = 16, .programs = LIBRARY + 1};
+    run(trials, number, rounds);
+    printf("\nGrowth: the library alone, in order, records of 16 bytes:\n\n");
     printf("| MiB | load MB/s | load ns/byte | write MB/s | write ns/byte |\n|--:|--:|--:|--:|--:|\n");
-    for (size_t mib = 1; mib <= (quick ? 1 : 64); mib *= 4) {
-        struct text text = generate(IN_ORDER, mib * MIB, 16);
-        struct times times = check_and_measure(&text, LIBRARY + 1, rounds);
-        printf("| %3zu |", mib);
-        for (int operation = 0; operation < OPERATIONS; operation++) {
-            double seconds = times.best[operation][LIBRARY];
-            printf(" %6.0f | %6.2f |", (double)text.bytes / seconds / 1e6, seconds * 1e9 / (double)text.bytes);
-        }
-        printf("\n");
-        fflush(stdout);
-        free(text.chars);
+    for (size_t i = 0; i < number; i++) {
+        double load = speed(&trials[i], LOAD, LIBRARY), write = speed(&trials[i], WRITE, LIBRARY);
+        printf("| %2zu | %5.0f | %5.2f | %5.0f | %5.2f |\n", trials[i].mib, load, 1e3 / load, write, 1e3 / write);
     }
 }
 
@@ -267,9 +292,8 @@ int main(int argc, char **argv)
         fputs("usage: compare [--quick] [ROUNDS]\n", stderr);
         return TROUBLE;
     }
-    printf("Minimum of %ld rounds.\n\n", rounds);
-    print_comparison(quick, (int)rounds);
-    print_ranges();
-    print_growth(quick, (int)rounds);
+    printf("Minimum of %ld rounds, of %ld below %d MiB.\n\n", rounds, MORE * rounds, SMALL);
+    compare(quick, rounds);
+    grow(quick, rounds);
     return 0;
 }

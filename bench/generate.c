@@ -84,14 +84,25 @@ static uint32_t *draw_order(enum order order, size_t records)
     return numbers;
 }
 
+/* A line has at most so many characters besides its data. Besides the data records a text has at most three lines. */
+enum { LINE = 15, OTHER_LINES = 3 };
+
+/* Enough for a text with runs of so many bytes. A line of the canonical text has no data on both sides of a multiple of
+ * 16, so a run of n bytes takes at most (n + 14) / 16 + 1 lines. */
+static size_t room_for(size_t runs, size_t run)
+{
+    size_t lines = runs * ((run + 14) / 16 + 1);
+    return (lines + OTHER_LINES) * LINE + 2 * (runs * run + sizeof header);
+}
+
 struct text generate(enum order order, size_t bytes, size_t size)
 {
     size_t records = (bytes + size - 1) / size;
-    size_t step = order == SPARSE ? 4 * size : size;
     size_t last = bytes - (records - 1) * size;
-    /* A line has 15 characters besides its data; there are three more lines at most. */
-    size_t room = (records + 3) * 15 + 2 * (bytes + sizeof header);
-    struct text text = {allocate(room), 0, bytes, (records - 1) * step + last, records};
+    size_t step = order == SPARSE ? 4 * size : size;
+    size_t cells = (records - 1) * step + last;
+    uint8_t *chars = allocate((records + OTHER_LINES) * LINE + 2 * (bytes + sizeof header));
+    struct text text = {chars, 0, bytes, cells, order == SPARSE ? room_for(records, size) : room_for(1, bytes)};
     uint32_t *numbers = draw_order(order, records);
 
     put_record(&text, '0', 2, 0, header, sizeof header);

@@ -1,7 +1,6 @@
 /* plain: the loader and the writer that one writes first, one character at a time.
  *
- * Compiled twice. With TABLE defined a table gives the value of a digit, and the functions have other names; nothing else
- * differs.
+ * Compiled twice. With TABLE defined a table gives the value of a digit, and the functions have other names.
  */
 #include <string.h>
 
@@ -23,15 +22,17 @@
 #define NONE_16 NONE_9, -1, -1, -1, -1, -1, -1, -1
 static int digit(uint8_t c)
 {
+    /* clang-format off */
     static const int8_t values[256] = {
-        NONE_16, NONE_16, NONE_16,                                  /* 00 to 2F */
-        0, 1, 2, 3, 4, 5, 6, 7, 8, 9, -1, -1, -1, -1, -1, -1,       /* 30 to 3F */
-        -1, 10, 11, 12, 13, 14, 15, NONE_9,                         /* 40 to 4F */
-        NONE_16,                                                    /* 50 to 5F */
-        -1, 10, 11, 12, 13, 14, 15, NONE_9,                         /* 60 to 6F */
-        NONE_16, NONE_16, NONE_16, NONE_16, NONE_16,                /* 70 to BF */
-        NONE_16, NONE_16, NONE_16, NONE_16,                         /* C0 to FF */
+        NONE_16, NONE_16, NONE_16,                            /* 00 to 2F */
+        0, 1, 2, 3, 4, 5, 6, 7, 8, 9, -1, -1, -1, -1, -1, -1, /* 30 to 3F */
+        -1, 10, 11, 12, 13, 14, 15, NONE_9,                   /* 40 to 4F */
+        NONE_16,                                              /* 50 to 5F */
+        -1, 10, 11, 12, 13, 14, 15, NONE_9,                   /* 60 to 6F */
+        NONE_16, NONE_16, NONE_16, NONE_16, NONE_16,          /* 70 to BF */
+        NONE_16, NONE_16, NONE_16, NONE_16,                   /* C0 to FF */
     };
+    /* clang-format on */
     return values[c];
 }
 #else
@@ -246,25 +247,33 @@ struct sink {
     unsigned sum;
 };
 
-static void put_char(struct sink *sink, char c)
+static inline void put_chars(struct sink *sink, char first, char second)
 {
-    if (sink->out)
-        sink->out[sink->length] = (uint8_t)c;
-    sink->length++;
+    if (sink->out) {
+        sink->out[sink->length] = (uint8_t)first;
+        sink->out[sink->length + 1] = (uint8_t)second;
+    }
+    sink->length += 2;
 }
 
-static void put_byte(struct sink *sink, unsigned byte)
+static inline void put_byte(struct sink *sink, unsigned byte)
 {
     static const char digits[] = "0123456789ABCDEF";
-    put_char(sink, digits[byte >> 4]);
-    put_char(sink, digits[byte & 15]);
+    put_chars(sink, digits[byte >> 4 & 15], digits[byte & 15]);
     sink->sum += byte;
 }
 
-static void put_record(struct sink *sink, char kind, unsigned width, uint32_t address, const uint8_t *data, size_t count)
+static void put_line_end(struct sink *sink)
 {
-    put_char(sink, 'S');
-    put_char(sink, kind);
+    if (sink->out)
+        sink->out[sink->length] = '\n';
+    sink->length++;
+}
+
+static void put_record(struct sink *sink, char kind, unsigned width, uint32_t address, const uint8_t *data,
+                       size_t count)
+{
+    put_chars(sink, 'S', kind);
     sink->sum = 0;
     put_byte(sink, width + (unsigned)count + 1);
     for (unsigned left = width; left-- > 0;)
@@ -272,7 +281,7 @@ static void put_record(struct sink *sink, char kind, unsigned width, uint32_t ad
     for (size_t i = 0; i < count; i++)
         put_byte(sink, data[i]);
     put_byte(sink, 255 - (sink->sum & 255));
-    put_char(sink, '\n');
+    put_line_end(sink);
 }
 
 struct image {
@@ -287,10 +296,10 @@ struct image {
 };
 
 /* The end of the run of cells that starts at a cell. A record's data do not pass a multiple of 16. */
-static size_t run_end(const struct image *image, size_t start)
+static size_t run_end(uint32_t base, const uint8_t *marks, size_t length, size_t start)
 {
     size_t end = start + 1;
-    while (end < image->length && image->marks[end] && ((image->base + end) & 15) != 0)
+    while (end < length && marks[end] && ((base + end) & 15) != 0)
         end++;
     return end;
 }
@@ -299,23 +308,25 @@ static size_t run_end(const struct image *image, size_t start)
 static size_t put_text(const struct image *image, uint8_t *out)
 {
     struct sink sink = {out, 0, 0};
+    const uint8_t *marks = image->marks;
+    size_t length = image->length;
+    unsigned width = image->width;
     uint32_t records = 0;
 
     put_record(&sink, '0', 2, 0, image->header, image->header_len);
-    for (size_t i = 0; i < image->length;) {
-        if (!image->marks[i]) {
+    for (size_t i = 0; i < length;) {
+        if (!marks[i]) {
             i++;
             continue;
         }
-        size_t end = run_end(image, i);
-        uint32_t address = image->base + (uint32_t)i;
-        put_record(&sink, (char)('0' + image->width - 1), image->width, address, image->memory + i, end - i);
+        size_t end = run_end(image->base, marks, length, i);
+        put_record(&sink, (char)('0' + width - 1), width, image->base + (uint32_t)i, image->memory + i, end - i);
         records++;
         i = end;
     }
     if (records <= 65535)
         put_record(&sink, '5', 2, records, NULL, 0);
-    put_record(&sink, (char)('0' + 11 - image->width), image->width, image->entry, NULL, 0);
+    put_record(&sink, (char)('0' + 11 - width), width, image->entry, NULL, 0);
     return sink.length;
 }
 
@@ -334,8 +345,8 @@ size_t WRITE(uint32_t base, const uint8_t *memory, size_t memory_len, const uint
     for (size_t i = 0; i < marks_len; i++) {
         if (marks[i] > 1)
             return 0;
-        if (marks[i] && base + (uint32_t)i > largest)
-            largest = base + (uint32_t)i;
+        if (marks[i] && base + i > largest)
+            largest = (uint32_t)(base + i);
     }
     struct image image = {base, memory, marks, memory_len, header, header_len, entry, width_for(largest)};
     if (put_text(&image, NULL) > out_len)

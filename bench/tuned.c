@@ -1,7 +1,7 @@
 /* tuned: made fast by hand, in portable C without vector instructions.
  *
- * Load: a table of 65536 entries gives the byte of two digits. The count says where a record ends, so that no line end is
- * searched; what does not look right is looked at again slowly. Marks are tested eight at a time.
+ * Load: a table of 65536 entries gives the byte of two digits. The count says where a record ends, so that no line end
+ * is searched; what does not look right is looked at again slowly. Marks are tested eight at a time.
  * Write: a table of 256 entries gives the two digits of a byte. Marks are walked eight or sixteen at a time.
  */
 #include <string.h>
@@ -107,8 +107,8 @@ static inline int add_bytes(const uint8_t *chars, unsigned bytes, unsigned *sum)
     return all < 256;
 }
 
-/* Does the record at the start of so many characters pass rows 3 to 5, and end where its count says? Gives its count and
- * its sum with the checksum. */
+/* Does the record at the start of so many characters pass rows 3 to 5, and end where its count says? Gives its count,
+ * and its sum with the checksum. */
 static inline int read_record(const uint8_t *chars, size_t left, unsigned *count, unsigned *sum)
 {
     if (left < 4 || chars[0] != 'S' || width_table[chars[1]] == 0)

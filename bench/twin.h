@@ -1,7 +1,7 @@
-/* twin.h: the twins of the library, plain C programs that do the same work.
+/* twin.h: the twins of the library, C functions that do the same work.
  *
- * Each has the contract of srec_load and srec_write, see include/srec.h: the same rows in the same order, memory unchanged
- * after a refusal, one canonical text.
+ * Each has the contract of srec_load and srec_write, see include/srec.h: the same rows in the same order, memory
+ * unchanged after a refusal, one canonical text.
  */
 #ifndef TWIN_H
 #define TWIN_H
