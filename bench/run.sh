@@ -1,10 +1,11 @@
 #!/bin/sh
-# run.sh [--quick] [ROUNDS]: compiles the library's twins and compares them with it. See README.md.
-# SREC_LIB_DIR names another folder for libcapi.a; if there is none, 'rt staticlib capi' proves and builds it.
+# run.sh [--quick] [ROUNDS]: compiles the library's twins and compares them with it. See README.md here.
+# If there is no libcapi.a, 'rt staticlib capi' makes it. SREC_LIB_DIR names another folder that has one.
 set -eu
 root=$(cd "$(dirname "$0")/.." && pwd)
 library=${SREC_LIB_DIR:-$root/target/staticlib}/libcapi.a
-[ -f "$library" ] || (cd "$root" && rt staticlib capi >&2)
+[ -f "$library" ] || [ -n "${SREC_LIB_DIR:-}" ] || (cd "$root" && rt staticlib capi >&2)
+[ -f "$library" ] || { echo "$library is missing" >&2; exit 2; }
 bin=$(mktemp -d)
 trap 'rm -rf "$bin"' EXIT
 trap 'exit 2' HUP INT TERM
