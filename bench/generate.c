@@ -1,0 +1,120 @@
+#include "generate.h"
+
+#include <stdio.h>
+#include <stdlib.h>
+#include <string.h>
+
+const uint8_t header[3] = {'H', 'D', 'R'};
+
+/* The largest number of data records that an S5 can hold. */
+enum { LARGEST_COUNT = 65535 };
+
+static void *allocate(size_t length)
+{
+    void *bytes = malloc(length);
+    if (!bytes) {
+        fputs("generate: out of memory\n", stderr);
+        exit(2);
+    }
+    return bytes;
+}
+
+/* One step of xorshift64. */
+static uint64_t scramble(uint64_t state)
+{
+    state ^= state << 13;
+    state ^= state >> 7;
+    state ^= state << 17;
+    return state;
+}
+
+static void put_byte(struct text *text, unsigned byte)
+{
+    static const char digits[] = "0123456789ABCDEF";
+    text->chars[text->length++] = (uint8_t)digits[byte >> 4 & 15];
+    text->chars[text->length++] = (uint8_t)digits[byte & 15];
+}
+
+static void put_record(struct text *text, char kind, unsigned width, size_t address, const uint8_t *data, size_t count)
+{
+    unsigned sum = width + (unsigned)count + 1;
+
+    text->chars[text->length++] = 'S';
+    text->chars[text->length++] = (uint8_t)kind;
+    put_byte(text, sum);
+    for (unsigned left = width; left-- > 0;) {
+        unsigned byte = (unsigned)(address >> 8 * left) & 255;
+        sum += byte;
+        put_byte(text, byte);
+    }
+    for (size_t i = 0; i < count; i++) {
+        sum += data[i];
+        put_byte(text, data[i]);
+    }
+    put_byte(text, ~sum & 255);
+    text->chars[text->length++] = '\n';
+}
+
+/* Random bytes that depend on the record's number alone, so that each order has the same data. */
+static void draw_data(uint8_t data[256], size_t number)
+{
+    uint64_t state = number * 0x9E3779B97F4A7C15u + 1;
+
+    for (size_t i = 0; i < 256; i += sizeof state) {
+        state = scramble(state);
+        memcpy(data + i, &state, sizeof state);
+    }
+}
+
+/* The numbers of the records, in the order in which they are to stand. */
+static uint32_t *draw_order(enum order order, size_t records)
+{
+    uint32_t *numbers = allocate(records * sizeof *numbers);
+    uint64_t state = 88172645463325252u;
+
+    for (size_t i = 0; i < records; i++)
+        numbers[i] = (uint32_t)i;
+    for (size_t i = records; order == SHUFFLED && i > 1; i--) {
+        state = scramble(state);
+        size_t other = (size_t)(state % i);
+        uint32_t number = numbers[i - 1];
+        numbers[i - 1] = numbers[other];
+        numbers[other] = number;
+    }
+    return numbers;
+}
+
+/* A line has at most so many characters besides its data. Besides the data records a text has at most three lines. */
+enum { LINE = 15, OTHER_LINES = 3 };
+
+/* Enough for a text with runs of so many bytes. A line of the canonical text has no data on both sides of a multiple of
+ * 16, so a run of n bytes takes at most (n + 14) / 16 + 1 lines. */
+static size_t room_for(size_t runs, size_t run)
+{
+    size_t lines = runs * ((run + 14) / 16 + 1);
+    return (lines + OTHER_LINES) * LINE + 2 * (runs * run + sizeof header);
+}
+
+struct text generate(enum order order, size_t bytes, size_t size)
+{
+    size_t records = (bytes + size - 1) / size;
+    size_t last = bytes - (records - 1) * size;
+    size_t step = order == SPARSE ? 4 * size : size;
+    size_t cells = (records - 1) * step + last;
+    uint8_t *chars = allocate((records + OTHER_LINES) * LINE + 2 * (bytes + sizeof header));
+    struct text text = {chars, 0, bytes, cells, order == SPARSE ? room_for(records, size) : room_for(1, bytes)};
+    uint32_t *numbers = draw_order(order, records);
+
+    put_record(&text, '0', 2, 0, header, sizeof header);
+    for (size_t i = 0; i < records; i++) {
+        uint8_t data[256];
+        size_t number = numbers[i];
+        draw_data(data, number);
+        put_record(&text, '3', 4, number * step, data, number + 1 < records ? size : last);
+    }
+    if (records <= LARGEST_COUNT)
+        put_record(&text, '5', 2, records, NULL, 0);
+    put_record(&text, '7', 4, 0, NULL, 0);
+    free(numbers);
+    return text;
+}

@@ -1,0 +1,26 @@
+/* generate.h: S-record texts to measure with, the same ones in every run. */
+#ifndef GENERATE_H
+#define GENERATE_H
+
+#include <stddef.h>
+#include <stdint.h>
+
+/* How data records stand: by rising address; the same, with a hole of three records behind each; in random order. */
+enum order { IN_ORDER, SPARSE, SHUFFLED };
+
+struct text {
+    uint8_t *chars;
+    size_t length;
+    size_t bytes; /* data bytes, in all records */
+    size_t cells; /* the length of the smallest window from address 0 on that holds them */
+    size_t room;  /* enough for the canonical text */
+};
+
+/* Every text has this header and entry 0. */
+extern const uint8_t header[3];
+
+/* A text of so many data bytes, at least 1, in S3 records of `size` data bytes, 1 to 250; the last may be shorter. Ends
+ * the program if memory is short. The characters are the caller's to free. */
+struct text generate(enum order order, size_t bytes, size_t size);
+
+#endif
