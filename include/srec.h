@@ -8,8 +8,29 @@
  * Every pointer is to a buffer of the length that follows it. A buffer of length 0 may have any pointer, NULL too: it is
  * not read. memory, marks and out must not overlap each other or any other buffer of the same call.
  *
- * A load or a write is refused by the first of these rows that applies (docs/FORMAT.md has them in full); srec_reason
- * gives the words.
+ * A load or a write is refused by the first row that applies, by its number; srec_reason below has the words of each, and
+ * docs/FORMAT.md the rules in full.
+ *
+ * Example: how many cells of a 32 KiB ROM at address 8000 hex the text on standard input fills.
+ *
+ *     #include <stdio.h>
+ *     #include "srec.h"
+ *
+ *     static uint8_t text[1 << 20], rom[0x8000], marks[0x8000];
+ *
+ *     int main(void)
+ *     {
+ *         size_t length = fread(text, 1, sizeof text, stdin), cells = 0;
+ *         uint32_t row = srec_load(text, length, 0x8000, rom, sizeof rom, marks, sizeof marks);
+ *         if (row != 0) {
+ *             printf("row %u: %s\n", (unsigned)row, srec_reason(row));
+ *             return 1;
+ *         }
+ *         for (size_t i = 0; i < sizeof marks; i++)
+ *             cells += marks[i];
+ *         printf("%zu of %zu cells\n", cells, sizeof rom);
+ *         return 0;
+ *     }
  */
 #ifndef SREC_H
 #define SREC_H

@@ -66,7 +66,19 @@ gives() { # STATUS OUTPUT WORDS ARGUMENTS..: what the example must give; no word
     fi
 }
 
-for source in "$root"/tests/c/*.c "$examples/canonical.c"; do
+prints() { # OUTPUT COMMAND..: the command must print this, whatever its exit status.
+    expected=$1
+    shift
+    printed=$("$@")
+    echo "printed '$printed', to be '$expected'"
+    [ "$printed" = "$expected" ]
+}
+
+# the programs that the header's comment and README.md show
+awk '/^ \* Example:/ { on = 1; next } /^ \*\// { on = 0 } on { sub(/^ \*(     )?/, ""); print }' "$include/srec.h" >"$bin/shown-header.c"
+awk '/^```c$/ { on = 1; next } /^```$/ { on = 0 } on' "$root/README.md" >"$bin/shown-readme.c"
+
+for source in "$root"/tests/c/*.c "$examples/canonical.c" "$bin/shown-header.c" "$bin/shown-readme.c"; do
     compile "$source"
 done
 
@@ -81,8 +93,14 @@ check "stress, watched, $cases cases" watched stress "$cases" "$examples"/*.srec
 cat "$bin/log"
 check "stress, with run-time checks, ${cases}0 cases" "$bin/stress-checked" "${cases}0" "$examples"/*.srec
 
+check "header's example, two cells" \
+    prints '2 of 32768 cells' sh -c 'printf "S1058000AA557B\nS9030000FC\n" | "$0"' "$bin/shown-header"
+check "header's example, a cell outside" \
+    prints 'row 12: some data lies outside the window' sh -c 'printf "S1040000AA51\nS9030000FC\n" | "$0"' "$bin/shown-header"
+
 sample=$examples/sample.srec
 canonical=$examples/sample.canonical
+check "README's example, sample" sh -c '"$0" <"$1" | cmp - "$2"' "$bin/shown-readme" "$sample" "$canonical"
 nothing=/dev/null
 outside='row 12: some data lies outside the window'
 check "example, sample" gives 0 "$canonical" '' "$sample"
