@@ -6,36 +6,32 @@ use native.Mathlib.Numerals.{add-one}
 use native.Mathlib.Omega.{arith}
 use mathlib.Core.Bool.{true, false}
 use mathlib.Core.List.{List, [], _∷_}
-use mathlib.Core.Option.{some}
-use lib.ListN.{length, take, drop, replicate, length-drop}
+use lib.ListN.{length, drop, replicate, length-drop}
 use lib.Seq.{length-take-le}
 use Rattle.window.specs.declared.Refusal.{Refusal}
-use Rattle.window.specs.Images.{Image, blank, mark, marksOf}
-use Rattle.window.specs.Plans.{Summary, refusal, Outcome, row12, row13, filled, placed}
-use Rattle.window.specs.Plans.Outcome.{refused, accepted}
+use Rattle.window.specs.Images.{Image, blank, marksOf}
+use Rattle.window.specs.Plans.{refusal, Outcome, row12, row13, filled, placed}
+use Rattle.window.specs.Plans.Outcome.{refused}
 use Rattle.window.specs.Marks.{claimRow, claimed}
 use Rattle.window.proofs.ClaimLaws.{claim-refused, claim-granted, claim-marks}
 use Rattle.srec.specs.Lines.{Line, lines}
-use Rattle.srec.specs.Kinds.{Kind, kindOf, isKnown, known, width}
+use Rattle.srec.specs.Kinds.{kindOf, isKnown, known, width}
 use Rattle.srec.specs.Reading.{Fault, Read, read}
 use Rattle.srec.specs.Reading.Read.{good, bad}
-use Rattle.srec.specs.Scan.{State as ScanState, Step as ScanStep, start, by-row, judge, judged, ended, located, scan, plan}
-use Rattle.srec.specs.Scan.Step.{refuse, pass, put, finish}
-use Rattle.reader.specs.declared.Found.{Found}
-use Rattle.reader.specs.declared.Found.the-variants.{At, Nothing}
+use Rattle.srec.specs.Scan.{State as ScanState, by-row, judge, judged, ended, located, scan, plan}
+use Rattle.reader.specs.declared.Found.the-variants.{Nothing}
 use Rattle.reader.specs.declared.Record.{Record}
-use Rattle.reader.specs.declared.Record.the-variants.{Good, Bad}
+use Rattle.reader.specs.declared.Record.the-variants.{Bad}
 use Rattle.reader.specs.Records.{found, asRecord}
-use Rattle.reader.proofs.WalkLaws.{part, Next, next-is}
-use Rattle.reader.proofs.FieldLaws.{Fields, Got, got}
+use Rattle.reader.proofs.WalkLaws.{part, Next}
+use Rattle.reader.proofs.FieldLaws.{Got}
 use Rattle.judge.specs.declared.State.{State}
 use Rattle.judge.specs.declared.Step.{Step}
 use Rattle.judge.specs.declared.Step.the-variants.{Refuse, Pass, Put, Finish}
-use Rattle.checker.specs.declared.Checked.{Checked}
-use Rattle.checker.specs.declared.Checked.the-variants.{Refused, Accepted}
+use Rattle.checker.specs.declared.Checked.the-variants.{Refused}
 use Rattle.judge.specs.Steps.{numbers, stateWith, asStep}
 use Rattle.checker.specs.Answers.{Told, unreadAs, endedAs}
-use Rattle.judge.proofs.JudgeLaws.{Grown, Says, judge-says}
+use Rattle.judge.proofs.JudgeLaws.{Says, judge-says}
 use Rattle.reader.proofs.TurnLaws.{Walk, walk-start, walk-none, walk-refused, walk-pass, walk-ended, walk-store, walk-put}
 
 -- the marks show the image of a walk; the numbers are small, since each record takes its characters

@@ -1,16 +1,14 @@
 -- Behind a terminator: a record, or the end.
-use mathlib.Core.Path.{_≡_, refl, ap}
-use Prim.Native.Nat.{ℕ, suc, _+_}
+use mathlib.Core.Path.{_≡_, refl}
+use Prim.Native.Nat.{ℕ, _+_}
 use native.Mathlib.Numerals.{add-one}
 use native.Mathlib.Omega.{arith}
 use mathlib.Core.List.{List, [], _∷_}
 use Rattle.window.specs.Plans.{refusal}
 use Rattle.srec.specs.Lines.{Line}
-use Rattle.reader.specs.declared.Found.{Found}
 use Rattle.reader.specs.declared.Found.the-variants.{At, Nothing}
 use Rattle.reader.specs.Records.{found}
 use Rattle.judge.specs.declared.State.{State}
-use Rattle.checker.specs.declared.Checked.{Checked}
 use Rattle.checker.specs.declared.Checked.the-variants.{Refused, Accepted}
 use Rattle.checker.specs.Answers.{endedAs}
 

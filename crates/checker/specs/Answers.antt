@@ -2,7 +2,6 @@
 use mathlib.Core.Path.{_≡_}
 use Prim.Native.Nat.{ℕ, suc}
 use mathlib.Core.List.{List, [], _∷_}
-use Rattle.window.specs.declared.Refusal.{Refusal}
 use Rattle.window.specs.Images.{marksOf}
 use Rattle.window.specs.Plans.{Entry, refusal, Outcome}
 use Rattle.window.specs.Plans.Outcome.{refused, accepted}

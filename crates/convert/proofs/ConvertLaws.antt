@@ -1,9 +1,8 @@
 -- What the answers of a load and of a write say of the whole: one law for each way out of `convert`.
 use mathlib.Core.Path.{_≡_, refl, sym, ap, _∙_, subst}
-use Prim.Native.Nat.{ℕ, suc, _-_, _≤_, _<_, zero-le}
+use Prim.Native.Nat.{ℕ, _-_, _≤_, _<_, zero-le}
 use native.Mathlib.Omega.{arith}
-use mathlib.Core.Bool.{cond}
-use mathlib.Core.List.{List, _++_}
+use mathlib.Core.List.{List}
 use lib.Dec.{lit<}
 use lib.ListN.{length, take, replicate, length-append}
 use Rattle.window.specs.declared.Refusal.{Refusal}
@@ -12,9 +11,7 @@ use Rattle.window.specs.Images.{Image}
 use Rattle.window.specs.Plans.{Entry, Summary, Outcome}
 use Rattle.window.specs.Plans.Outcome.{refused, accepted}
 use Rattle.hex.proofs.TestLaws.{Of, either}
-use Rattle.srec.specs.declared.Header.{Header}
 use Rattle.srec.specs.declared.Loaded.{Loaded}
-use Rattle.srec.specs.declared.Written.{Written}
 use Rattle.srec.specs.Load.{load, loadAnswer, memoryAfter, marksAfter}
 use Rattle.srec.specs.Write.{WriteOutcome, row15, row17, textOf, write, writeAnswer, outputAfter}
 use Rattle.srec.specs.Write.WriteOutcome.{declined, wrote}

@@ -4,10 +4,10 @@ use Prim.Native.Nat.{ℕ, zero, suc, _+_, _-_, _*_, _/_, _%_, _≤_, _<_}
 use native.Mathlib.Omega.{arith}
 use mathlib.Core.Bool.{true, cond}
 use mathlib.Core.List.{List, [], _∷_, _++_}
-use lib.Dec.{T, leb, eqb, eqb→eq, leb→le, lit<}
+use lib.Dec.{leb, eqb, eqb→eq, leb→le, lit<}
 use lib.ListN.{length, getD, take, drop}
 use mir.Facts.{and-yes}
-use Rattle.hex.specs.Digits.{between, isHex, isCapital, value, digit, byteOf, bytes, digitsOf, firstBad}
+use Rattle.hex.specs.Digits.{between, isHex, isCapital, value, digit, bytes, digitsOf, firstBad}
 use Rattle.hex.proofs.TestLaws.{by-test, T-true, true-T, below}
 
 -- ---- digits

@@ -1,15 +1,14 @@
 -- The bytes of pairs of digits, as a loop comes to them: two characters a turn.
 use mathlib.Core.Path.{_≡_, refl, sym, ap, _∙_}
-use Prim.Native.Nat.{ℕ, zero, suc, _+_, _-_, _*_, _/_, _%_, _^_, _≤_, _<_}
+use Prim.Native.Nat.{ℕ, zero, suc, _+_, _*_, _/_, _%_, _≤_, _<_}
 use native.Mathlib.Nat.{mod-add-mod, add-assoc}
 use native.Mathlib.Numerals.{add-one}
 use native.Mathlib.Omega.{arith}
-use mathlib.Core.Bool.{true, false, cond}
+use mathlib.Core.Bool.{true, false}
 use mathlib.Core.List.{List, [], _∷_, _++_}
-use lib.ListN.{length, getD, take, drop, set, length-drop, length-take, drop-of-length-le}
+use lib.ListN.{length, getD, take, drop, set, length-drop, drop-of-length-le}
 use lib.Seq.{drop-cons, set-at, append-snoc, take-suc, length-take-le}
-use lib.Pow.{pow-mono}
-use Rattle.hex.specs.Digits.{isHex, value, byteOf, bytes, firstBad}
+use Rattle.hex.specs.Digits.{isHex, byteOf, bytes, firstBad}
 use Rattle.hex.specs.Numbers.{numberAfter, sum}
 
 -- ---- one pair after the other

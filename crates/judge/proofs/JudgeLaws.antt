@@ -4,17 +4,16 @@ use Prim.Native.Nat.{ℕ, suc, _+_, _*_, _^_, _≤_, _<_}
 use native.Mathlib.Nat.{add-zero}
 use native.Mathlib.Numerals.{add-one}
 use native.Mathlib.Omega.{arith}
-use mathlib.Core.Bool.{Bool, true, false, cond, not, _&&_}
-use mathlib.Core.List.{List, [], _∷_}
+use mathlib.Core.Bool.{true, false, not, _&&_}
+use mathlib.Core.List.{List, []}
 use mathlib.Core.Option.{Option, none, some}
-use mathlib.Core.Logic.{⊎-elim, _⊎_, inl, inr}
+use mathlib.Core.Logic.{_⊎_, inl, inr}
 use lib.Dec.{eqb, ltb}
 use lib.ListN.{length, replicate, length-replicate}
 use borrow.Author.Tests.{eq-eqb, ne-eqb, lt-ltb, le-ltb, ltb-true, ltb-false}
 use Rattle.srec.specs.Kinds.{Kind, kindOf, typeOf, width, isKnown, known}
 use Rattle.srec.specs.Kinds.Kind.{S0, Data, S5, End}
-use Rattle.srec.specs.Reading.{Fault}
-use Rattle.srec.specs.Scan.{State as ScanState, Step as ScanStep, by-row, row8, row9, row10, row11, more, moreData, judge}
+use Rattle.srec.specs.Scan.{State as ScanState, Step as ScanStep, by-row, row8, row9, row10, row11, more, judge}
 use Rattle.srec.specs.Scan.Step.{refuse, pass, put, finish}
 use Rattle.hex.proofs.TestLaws.{by-test, Of, either}
 use Rattle.reader.specs.Records.{widthOr0}

@@ -1,6 +1,6 @@
 -- The state and the step of the loader as the numbers that its code keeps. The header is read once, at the end, and is not among them.
 use Prim.Native.Nat.{ℕ}
-use mathlib.Core.List.{List, []}
+use mathlib.Core.List.{List}
 use Rattle.srec.specs.Scan.{State as ScanState, Step as ScanStep}
 use Rattle.srec.specs.Scan.Step.{refuse, pass, put, finish}
 use Rattle.judge.specs.declared.State.{State}

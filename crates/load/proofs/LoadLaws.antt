@@ -2,16 +2,13 @@
 use mathlib.Core.Path.{_≡_, refl, sym, ap, _∙_, subst}
 use Prim.Native.Nat.{ℕ, _+_, _-_, _^_, _≤_, _<_}
 use native.Mathlib.Omega.{arith}
-use mathlib.Core.Bool.{true, false, cond, not, _||_, or-true}
 use mathlib.Core.List.{List}
-use lib.Dec.{eqb, ltb}
 use lib.ListN.{length, replicate, length-replicate}
 use borrow.Author.Tests.{eq-eqb, ne-eqb, lt-ltb, le-ltb}
 use Rattle.window.specs.declared.Refusal.{Refusal}
-use Rattle.window.specs.Windows.{Window, row1}
+use Rattle.window.specs.Windows.{row1}
 use Rattle.window.specs.Images.{Image, blank, marksOf}
 use Rattle.window.specs.Plans.{Summary, refusal, Outcome, placed}
-use Rattle.window.specs.Plans.Plan.{done}
 use Rattle.window.specs.Plans.Outcome.{refused, accepted}
 use Rattle.window.proofs.PlanLaws.{Accepted as PlanAccepted, placed-inv}
 use Rattle.srec.specs.declared.Header.{Header}
@@ -19,7 +16,6 @@ use Rattle.srec.specs.declared.Loaded.{Loaded}
 use Rattle.srec.specs.Lines.{lines}
 use Rattle.srec.specs.Scan.{plan}
 use Rattle.srec.specs.Load.{load, headerOf, loadAnswer, memoryAfter, marksAfter}
-use Rattle.checker.specs.declared.Checked.{Checked}
 use Rattle.checker.specs.declared.Checked.the-variants.{Refused, Accepted}
 use Rattle.checker.specs.Answers.{Told}
 use Rattle.store.specs.Stores.{Accepts}

@@ -2,8 +2,8 @@
 use mathlib.Core.Path.{_≡_, refl, sym, ap, _∙_, subst}
 use Prim.Native.Nat.{ℕ, _+_, _-_, _*_, _^_, _≤_, _<_}
 use native.Mathlib.Omega.{arith}
-use mathlib.Core.Bool.{Bool, true, false, cond, not, _||_}
-use mathlib.Core.List.{List, [], _∷_}
+use mathlib.Core.Bool.{true, false, not, _||_}
+use mathlib.Core.List.{List}
 use mathlib.Core.Option.{Option, none, some}
 use lib.Dec.{ltb, eqb}
 use lib.ListN.{length, getD, take, drop, length-drop}
@@ -11,13 +11,12 @@ use lib.Seq.{getD-drop, length-take-le, drop-drop}
 use borrow.Author.Tests.{not-false}
 use Rattle.hex.specs.Digits.{byteOf, bytes}
 use Rattle.hex.specs.Numbers.{number}
-use Rattle.hex.proofs.TestLaws.{Of, by-test, or-neither}
+use Rattle.hex.proofs.TestLaws.{by-test, or-neither}
 use Rattle.hex.proofs.PairLaws.{byte-at, take-bytes, drop-bytes, length-bytes}
 use Rattle.srec.specs.Kinds.{Kind, kindOf, typeOf, width, isKnown, known}
 use Rattle.srec.specs.Reading.{Fault, Read, row3, row4, row5, row6, row7, addressIn, dataIn, read}
 use Rattle.srec.specs.Reading.Read.{good, bad}
-use Rattle.srec.proofs.BoundLaws.{Sane, ReadOk, read-ok}
-use Rattle.reader.specs.declared.Record.{Record}
+use Rattle.srec.proofs.BoundLaws.{ReadOk, read-ok}
 use Rattle.reader.specs.declared.Record.the-variants.{Good, Bad}
 use Rattle.reader.specs.Records.{asRecord}
 use Rattle.reader.proofs.KindLaws.{Known, known-kind, row-6-inv}

@@ -1,22 +1,21 @@
 -- Rows 3 to 7 by the characters of a record: one law for each answer of `read_record`.
-use mathlib.Core.Path.{_≡_, refl, sym, ap, _∙_}
-use Prim.Native.Nat.{ℕ, suc, _+_, _-_, _*_, _%_, _≤_, _<_}
+use mathlib.Core.Path.{_≡_, sym, ap, _∙_}
+use Prim.Native.Nat.{ℕ, _+_, _-_, _*_, _%_, _≤_, _<_}
 use native.Mathlib.Nat.{add-zero, add-assoc}
 use native.Mathlib.Omega.{arith}
-use mathlib.Core.Bool.{Bool, true, false, cond, not, _||_}
-use mathlib.Core.List.{List, [], _∷_}
-use mathlib.Core.Option.{Option, none, some}
-use lib.Dec.{ltb, eqb}
+use mathlib.Core.Bool.{true, false, cond, not}
+use mathlib.Core.List.{List}
+use mathlib.Core.Option.{none}
+use lib.Dec.{eqb}
 use lib.ListN.{length, getD, take, drop, length-drop}
 use lib.Seq.{getD-drop}
 use borrow.Author.Tests.{lt-ltb, le-ltb, eq-eqb, ne-eqb}
 use Rattle.hex.specs.Digits.{byteOf, bytes, firstBad}
 use Rattle.hex.specs.Numbers.{number, sum}
 use Rattle.hex.proofs.PairLaws.{byte-at, take-bytes}
-use Rattle.srec.specs.Kinds.{Kind, kindOf, typeOf, width, known}
+use Rattle.srec.specs.Kinds.{Kind, kindOf, known}
 use Rattle.srec.specs.Reading.{Read, fault, checksum, row3, row4, row5, row6, row7, addressIn, dataIn, read}
-use Rattle.srec.specs.Reading.Read.{good, bad}
-use Rattle.reader.specs.declared.Record.{Record}
+use Rattle.srec.specs.Reading.Read.{good}
 use Rattle.reader.specs.declared.Record.the-variants.{Good, Bad}
 use Rattle.reader.specs.Records.{asRecord}
 use Rattle.reader.proofs.KindLaws.{Known}

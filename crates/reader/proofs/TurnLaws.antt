@@ -1,16 +1,13 @@
 -- A walk over the records of a text, one turn after the other, whatever it keeps of the image: what is left gives what the whole gives.
 use mathlib.Core.Path.{_≡_, refl, sym, ap, _∙_}
-use Prim.Native.Nat.{ℕ, suc, _+_, _≤_, _<_, zero-le}
-use native.Mathlib.Nat.{add-zero}
-use native.Mathlib.Omega.{arith}
-use mathlib.Core.Bool.{false, cond}
+use Prim.Native.Nat.{ℕ, suc, _≤_, zero-le}
+use mathlib.Core.Bool.{false}
 use mathlib.Core.List.{List, [], _∷_}
 use lib.ListN.{length, drop}
 use Rattle.window.specs.Images.{Image, blank}
 use Rattle.window.specs.Plans.{Entry, refusal, Plan, Outcome, row12, row13, filled, placed}
 use Rattle.window.specs.Plans.Plan.{store}
 use Rattle.window.specs.Plans.Outcome.{refused}
-use Rattle.window.proofs.PlanLaws.{fillAll}
 use Rattle.window.proofs.RoomLaws.{length-blank, fill-length}
 use Rattle.srec.specs.Lines.{lines}
 use Rattle.srec.specs.Reading.{Fault, read}

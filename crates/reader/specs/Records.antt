@@ -6,7 +6,7 @@ use mathlib.Core.Option.{Option, none, some}
 use lib.ListN.{length}
 use Rattle.srec.specs.Lines.{Line, isEnd}
 use Rattle.srec.specs.Kinds.{Kind, typeOf, width}
-use Rattle.srec.specs.Reading.{Fault, Read}
+use Rattle.srec.specs.Reading.{Read}
 use Rattle.srec.specs.Reading.Read.{good, bad}
 use Rattle.reader.specs.declared.Found.{Found}
 use Rattle.reader.specs.declared.Found.the-variants.{At, Nothing}

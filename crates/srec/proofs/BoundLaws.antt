@@ -1,13 +1,11 @@
 -- What any text can say: bytes are bytes, a header has at most 252 of them, an entry at most 32 bits, a refusal a reason; and the two counts.
 use mathlib.Core.Path.{_≡_, refl, subst, subst₂}
-use Prim.Native.Nat.{ℕ, suc, _+_, _-_, _*_, _^_, _≤_, _<_}
+use Prim.Native.Nat.{ℕ, suc, _+_, _-_, _^_, _≤_, _<_}
 use native.Mathlib.Omega.{arith}
-use mathlib.Core.Bool.{cond}
 use mathlib.Core.List.{List, [], _∷_}
-use mathlib.Core.Option.{Option, none, some}
+use mathlib.Core.Option.{Option, some}
 use lib.Dec.{eqb, lit<, lit≤}
 use lib.ListN.{length, getD, take, drop, length-take}
-use Rattle.window.specs.declared.Refusal.{Refusal}
 use Rattle.window.specs.Cells.{Run}
 use Rattle.window.specs.Plans.{Summary, Plan, Outcome, row12, row13, filled, placed}
 use Rattle.window.specs.Plans.Plan.{store, stop, done}

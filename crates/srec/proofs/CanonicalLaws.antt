@@ -1,17 +1,17 @@
 -- What a canonical text asks of a window: its runs; and how its plan ends.
-use mathlib.Core.Path.{_≡_, refl, sym, ap, ap₂, _∙_, subst}
+use mathlib.Core.Path.{_≡_, refl, sym, ap, _∙_, subst}
 use Prim.Native.Nat.{ℕ, suc, _+_, _*_, _^_, _≤_}
 use native.Mathlib.Nat.{zero-add}
 use native.Mathlib.Omega.{arith}
-use mathlib.Core.Bool.{Bool, false, cond, not, _&&_, and-false}
+use mathlib.Core.Bool.{false, not, _&&_, and-false}
 use mathlib.Core.List.{List, [], _∷_, _++_, append-nil}
 use mathlib.Core.Logic.{_⊎_, inl, inr}
-use lib.Dec.{eqb, ltb, leb, lit≤}
+use lib.Dec.{eqb, leb, lit≤}
 use lib.ListN.{length}
 use borrow.Author.Tests.{le-ltb, eq-eqb, leb-true}
 use Rattle.window.specs.Cells.{Run}
 use Rattle.window.specs.Plans.{Entry, Summary, Plan}
-use Rattle.window.specs.Plans.Plan.{store, stop, done}
+use Rattle.window.specs.Plans.Plan.{store, done}
 use Rattle.window.proofs.CellLaws.{total}
 use Rattle.window.proofs.PlanLaws.{stores, final}
 use Rattle.hex.proofs.TestLaws.{by-test}

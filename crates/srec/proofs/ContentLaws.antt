@@ -2,7 +2,6 @@
 use mathlib.Core.Path.{_≡_, refl, sym, ap, _∙_}
 use Prim.Native.Nat.{ℕ, suc, _+_, _<_}
 use native.Mathlib.Omega.{arith}
-use mathlib.Core.Bool.{cond, not}
 use mathlib.Core.List.{List, [], _∷_}
 use lib.Dec.{eqb}
 use lib.ListN.{length}
@@ -10,13 +9,12 @@ use borrow.Author.Tests.{eqb-true, not-false}
 use Rattle.window.specs.declared.Refusal.{Refusal}
 use Rattle.window.specs.Cells.{Run}
 use Rattle.window.specs.Plans.{Entry, Summary, refusal, Plan}
-use Rattle.window.specs.Plans.Plan.{store, stop, done}
+use Rattle.window.specs.Plans.Plan.{stop, done}
 use Rattle.window.proofs.PlanLaws.{stores, final}
 use Rattle.hex.proofs.TestLaws.{by-test}
 use Rattle.srec.specs.Lines.{Line, lines}
-use Rattle.srec.specs.Kinds.{Kind}
 use Rattle.srec.specs.Kinds.Kind.{S0, Data, S5, End}
-use Rattle.srec.specs.Reading.{Fault, Read, read}
+use Rattle.srec.specs.Reading.{Read, read}
 use Rattle.srec.specs.Reading.Read.{good, bad}
 use Rattle.srec.specs.Scan.{State, start, row8, row9, row10, row11, more, moreData, judge, judged, ended, located, onward, scan, plan}
 use Rattle.srec.specs.Terms.{dataOf, dataRecords, headerIn, headerAmong, textHeader, entryIn, entryAmong, textEntry}

@@ -1,31 +1,28 @@
 -- Texts that are loaded and written again: the statements of specs/Demand3.antt hold.
 use mathlib.Core.Path.{_≡_, refl, sym, ap, _∙_, subst}
-use Prim.Native.Nat.{ℕ, _+_, _-_, _^_, _≤_, _<_}
+use Prim.Native.Nat.{ℕ, _+_, _-_, _^_}
 use native.Mathlib.Omega.{arith}
-use mathlib.Core.Bool.{cond}
 use mathlib.Core.List.{List, [], _∷_}
 use mathlib.Core.Logic.{_↔_, inl, inr}
 use lib.ListN.{length, getD}
-use Rattle.window.specs.Windows.{Window, row1, Allowed, Holds, Marked}
+use Rattle.window.specs.Windows.{Window, Allowed, Holds, Marked}
 use Rattle.window.specs.Images.{Image, blank}
 use Rattle.window.specs.Cells.{Cell, Run, cells, Addressed}
 use Rattle.window.proofs.CellLaws.{In}
-use Rattle.window.specs.Plans.{Entry, Summary, Plan, Outcome, placed}
+use Rattle.window.specs.Plans.{Entry, Summary}
 use Rattle.window.specs.Plans.Plan.{done}
 use Rattle.window.specs.Plans.Outcome.{accepted}
 use Rattle.window.proofs.OrderLaws.{same-cells}
 use Rattle.window.proofs.PlanLaws.{fillAll, Room, placed-accepts}
 use Rattle.window.proofs.RoomLaws.{HoldsRuns, blank-room}
 use Rattle.window.proofs.ViewLaws.{marked-in, in-marked}
-use Rattle.srec.specs.declared.Header.{Header}
 use Rattle.srec.specs.declared.Loaded.{Loaded}
 use Rattle.srec.specs.Scan.{plan}
 use Rattle.srec.specs.Canonical.{runs, canonical}
 use Rattle.srec.specs.Load.{load, loadAnswer}
-use Rattle.srec.specs.Write.{WriteOutcome}
 use Rattle.srec.specs.Write.WriteOutcome.{wrote}
 use Rattle.srec.specs.Terms.{SameContent, HoldsCells, loaded, Accepted, after, headerBytes, writtenAfter, Enough, Narrowest}
-use Rattle.srec.specs.Demand3.{Equal-content, Compared, LoadsBack, Written-loads-back, Narrowest-width}
+use Rattle.srec.specs.Demand3.{Equal-content, LoadsBack, Written-loads-back, Narrowest-width}
 use Rattle.srec.proofs.CanonicalLaws.{Gives}
 use Rattle.srec.proofs.RunLaws.{AllGood, good-runs, rising-runs, cells-ok}
 use Rattle.srec.proofs.LoadLaws.{Storable, Behind, load-inv, accepted-is, widthOf, summaryOf, canonical-gives, canonical-inj, writtenAfter-is, write-room}

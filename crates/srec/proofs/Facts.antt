@@ -1,23 +1,19 @@
 -- The statements of specs/Facts.antt hold.
 use mathlib.Core.Path.{_≡_, refl, ap, _∙_, sym}
-use Prim.Native.Nat.{ℕ, suc, _+_, _<_}
+use Prim.Native.Nat.{ℕ, suc, _+_}
 use native.Mathlib.Omega.{arith}
-use mathlib.Core.Bool.{not}
 use mathlib.Core.List.{List, [], _∷_}
 use mathlib.Core.Option.{none, some}
 use lib.Dec.{eqb}
 use lib.ListN.{length}
 use borrow.Author.Tests.{eqb-true, not-false}
-use Rattle.window.specs.declared.Refusal.{Refusal}
-use Rattle.window.specs.Windows.{Window}
 use Rattle.window.specs.Images.{Image, marksOf}
 use Rattle.window.specs.Cells.{cells}
-use Rattle.window.specs.Plans.{Summary, refusal, Plan}
-use Rattle.window.specs.Plans.Plan.{stop, done}
+use Rattle.window.specs.Plans.{Summary, refusal}
+use Rattle.window.specs.Plans.Plan.{done}
 use Rattle.window.specs.Plans.Outcome.{accepted}
 use Rattle.window.proofs.PlanLaws.{final}
 use Rattle.hex.proofs.TestLaws.{by-test}
-use Rattle.srec.specs.declared.Loaded.{Loaded}
 use Rattle.srec.specs.Lines.{Line, lines}
 use Rattle.srec.specs.Kinds.Kind.{S0, Data, S5, End}
 use Rattle.srec.specs.Reading.{Read, read}
@@ -25,9 +21,8 @@ use Rattle.srec.specs.Reading.Read.{good, bad}
 use Rattle.srec.specs.Writing.{recordText}
 use Rattle.srec.specs.Scan.{State, start, row8, row9, row10, row11, more, moreData, judge, judged, ended, located, onward, scan, plan}
 use Rattle.srec.specs.Canonical.{line, canonical}
-use Rattle.srec.specs.Load.{load, loadAnswer, marksAfter}
+use Rattle.srec.specs.Load.{load}
 use Rattle.srec.specs.Write.{textOf}
-use Rattle.srec.specs.Terms.{Accepted, after, loaded}
 use Rattle.srec.specs.Facts.{ones, Cells-are-marks, Records-are-counted, Counted, TrueCounts, S5-is-true, Never-empty}
 use Rattle.srec.proofs.ContentLaws.{no-stop}
 use Rattle.srec.proofs.LoadLaws.{Behind, load-inv, accepted-is}

@@ -3,15 +3,15 @@ use mathlib.Core.Path.{_≡_, refl}
 use Prim.Native.Nat.{ℕ, suc, _+_, _/_, _%_, _<_}
 use native.Mathlib.Nat.{add-zero, add-suc, suc-add, not-suc-le-zero}
 use native.Mathlib.Omega.{arith}
-use mathlib.Core.Bool.{false, cond, not}
+use mathlib.Core.Bool.{false, not}
 use mathlib.Core.List.{List, [], _∷_, _++_}
 use lib.ListN.{length}
 use borrow.Author.Tests.{not-true}
 use Rattle.hex.specs.Digits.{digit, digitsOf}
 use Rattle.hex.proofs.TestLaws.{T-true, below}
 use Rattle.hex.proofs.DigitLaws.{Bytes, high-small, low-small}
-use Rattle.srec.specs.Lines.{Line, isEnd, front, push, behind, lines}
-use Rattle.srec.specs.Kinds.{Kind, typeOf}
+use Rattle.srec.specs.Lines.{isEnd, front, push, behind, lines}
+use Rattle.srec.specs.Kinds.{Kind}
 use Rattle.srec.specs.Writing.{recordText}
 use Rattle.srec.proofs.RecordLaws.{Fit, record-digits}
 

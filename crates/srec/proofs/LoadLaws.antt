@@ -3,35 +3,33 @@ use mathlib.Core.Path.{_≡_, refl, sym, ap, _∙_, subst}
 use Prim.Native.Nat.{ℕ, _+_, _-_, _*_, _^_, _≤_, _<_}
 use native.Mathlib.Nat.{zero-add}
 use native.Mathlib.Omega.{arith}
-use mathlib.Core.Bool.{Bool, true, false, cond}
-use mathlib.Core.List.{List, [], _∷_, _++_}
-use mathlib.Core.Logic.{_⊎_, inl, inr, _↔_}
-use lib.Dec.{ltb, lit<, lit≤}
-use lib.ListN.{length, take, replicate, length-map}
+use mathlib.Core.Bool.{false}
+use mathlib.Core.List.{List, [], _∷_}
+use mathlib.Core.Logic.{inl, inr, _↔_}
+use lib.Dec.{lit<}
+use lib.ListN.{length, replicate, length-map}
 use lib.Seq.{take-at}
 use borrow.Author.Tests.{le-ltb}
 use Rattle.window.specs.declared.Refusal.{Refusal}
 use Rattle.window.specs.Windows.{Window, row1, Allowed, firstBadMark, row16}
-use Rattle.window.specs.Images.{Image, blank, mark, marksOf, overlaid}
+use Rattle.window.specs.Images.{Image, blank, mark, marksOf}
 use Rattle.window.specs.Cells.{Cell, Run, cells, Addressed}
 use Rattle.window.specs.Plans.{Entry, Summary, refusal, Plan, Outcome, placed}
 use Rattle.window.specs.Plans.Plan.{done}
 use Rattle.window.specs.Plans.Outcome.{refused, accepted}
 use Rattle.window.proofs.CellLaws.{In, cells-blank, in-high, total, total-flat, flat}
 use Rattle.window.proofs.OrderLaws.{Rising, rising-image}
-use Rattle.window.proofs.PlanLaws.{stores, final, fillAll, Accepted as PlanAccepted, placed-inv}
+use Rattle.window.proofs.PlanLaws.{stores, final, Accepted as PlanAccepted, placed-inv}
 use Rattle.window.proofs.FillLaws.{left-by, count-fill}
 use Rattle.window.proofs.RoomLaws.{length-blank, fill-length}
 use Rattle.window.proofs.ViewLaws.{showing, image-after, length-overlaid, no-odd, allowed-inv, allowed-is}
 use Rattle.hex.proofs.TestLaws.{by-test, Of, either}
 use Rattle.hex.proofs.DigitLaws.{Bytes-at}
-use Rattle.srec.specs.declared.Header.{Header}
-use Rattle.srec.specs.declared.Loaded.{Loaded}
 use Rattle.srec.specs.Lines.{lines}
 use Rattle.srec.specs.Scan.{plan}
 use Rattle.srec.specs.Canonical.{runs, largest, widthFor, canonical}
 use Rattle.srec.specs.Load.{load, loadAnswer}
-use Rattle.srec.specs.Write.{WriteOutcome, textOf, row15, row17, write}
+use Rattle.srec.specs.Write.{textOf, row15, row17, write}
 use Rattle.srec.specs.Write.WriteOutcome.{declined, wrote}
 use Rattle.srec.specs.Terms.{dataRecords, CellOf, textHeader, textEntry, Accepted, writtenAfter, Enough}
 use Rattle.srec.proofs.CanonicalLaws.{Gives, Writable, text-gives}

@@ -3,22 +3,21 @@ use mathlib.Core.Path.{_≡_, refl, ap, _∙_}
 use Prim.Native.Nat.{ℕ, suc, _+_, _-_, _*_, _^_, _≤_, _<_}
 use native.Mathlib.Numerals.{add-one}
 use native.Mathlib.Omega.{arith}
-use mathlib.Core.Bool.{Bool, true, false, cond, not, _&&_, _||_}
+use mathlib.Core.Bool.{Bool, true, false, not, _&&_}
 use mathlib.Core.List.{List, [], _∷_, _++_, append-assoc}
 use mathlib.Core.Option.{some}
-use lib.Dec.{ltb, eqb}
-use lib.ListN.{length, getD, take, drop, length-append}
+use lib.Dec.{eqb}
+use lib.ListN.{length, getD, take, length-append}
 use lib.Seq.{take-at, drop-at, getD-at}
 use borrow.Author.Tests.{le-ltb, eq-eqb}
-use Rattle.hex.specs.Digits.{bytes, digitsOf, firstBad}
+use Rattle.hex.specs.Digits.{bytes, digitsOf}
 use Rattle.hex.specs.Numbers.{number, inBytes}
 use Rattle.hex.proofs.DigitLaws.{Bytes, Bytes-append, bytes-pairs, length-pairs, firstBad-pairs}
 use Rattle.hex.proofs.NumberLaws.{length-inBytes, inBytes-small, number-inBytes}
 use Rattle.srec.specs.Lines.{isEnd}
 use Rattle.srec.specs.Kinds.{Kind, kindOf, typeOf, width, hasData}
-use Rattle.srec.specs.Kinds.Kind.{S0, Data, S5, End}
-use Rattle.srec.specs.Reading.{Read, checksum, row3, row4, row5, row6, row7, addressIn, dataIn, read}
-use Rattle.srec.specs.Reading.Read.{good, bad}
+use Rattle.srec.specs.Reading.{checksum, row3, row4, row5, row6, row7, addressIn, dataIn, read}
+use Rattle.srec.specs.Reading.Read.{good}
 use Rattle.srec.specs.Writing.{summed, recordText}
 
 -- what can be written as a record of kind k

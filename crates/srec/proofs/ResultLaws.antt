@@ -5,12 +5,12 @@ use native.Mathlib.Omega.{arith}
 use mathlib.Core.Bool.{Bool, true, false, _&&_, or-true}
 use mathlib.Core.List.{List, [], _∷_, _++_, map}
 use mathlib.Core.Option.{none, some}
-use mathlib.Core.Logic.{⊎-elim, _⊎_, inl, inr, _↔_}
+use mathlib.Core.Logic.{⊎-elim, inl, inr, _↔_}
 use lib.Dec.{T, leb, ltb, leb→le, ltb→lt}
 use lib.ListN.{length, getD}
 use mir.Facts.{and-yes, or-yes}
 use borrow.Author.Tests.{lt-ltb, le-leb}
-use Rattle.window.specs.Images.{Image, image}
+use Rattle.window.specs.Images.{Image}
 use Rattle.window.specs.Cells.{Cell, Run, cells}
 use Rattle.window.specs.Plans.{Plan, Outcome, anyGiven, row12, row13, filled, placed}
 use Rattle.window.specs.Plans.Plan.{store, stop, done}

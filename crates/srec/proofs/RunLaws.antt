@@ -1,11 +1,11 @@
 -- The runs of cells: they hold those cells, in rising order, and fit records of the width that the largest address asks.
 use mathlib.Core.Path.{_≡_, refl, ap, _∙_, subst}
-use Prim.Native.Nat.{ℕ, suc, _+_, _-_, _*_, _%_, _^_, _≤_, _<_, max}
+use Prim.Native.Nat.{ℕ, suc, _+_, _-_, _*_, _%_, _^_, _≤_, _<_}
 use native.Mathlib.Omega.{arith}
-use mathlib.Core.Bool.{Bool, true, false, cond, not, _&&_}
+use mathlib.Core.Bool.{true, false, not}
 use mathlib.Core.List.{List, [], _∷_}
 use mathlib.Core.Option.{some}
-use mathlib.Core.Logic.{_⊎_, inl, inr}
+use mathlib.Core.Logic.{inl, inr}
 use lib.Dec.{eqb, ltb, lit<, lit≤}
 use lib.ListN.{length}
 use lib.Pow.{pow-mono}
@@ -17,7 +17,7 @@ use Rattle.window.proofs.RoomLaws.{RisingRuns}
 use Rattle.hex.proofs.TestLaws.{by-test, and-both}
 use Rattle.hex.proofs.DigitLaws.{Bytes}
 use Rattle.srec.specs.Lines.{isEnd}
-use Rattle.srec.specs.Kinds.{Kind, kindOf}
+use Rattle.srec.specs.Kinds.{kindOf}
 use Rattle.srec.specs.Kinds.Kind.{S0, Data, End}
 use Rattle.srec.specs.Canonical.{joins, before, runs, largest, widthFor}
 use Rattle.srec.proofs.RecordLaws.{Fit}

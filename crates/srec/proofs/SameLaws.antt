@@ -1,13 +1,12 @@
 -- Tests that say that two lists, cells, refusals or results are equal.
 use mathlib.Core.Path.{_≡_, refl, ap, ap₂}
-use Prim.Native.Nat.{ℕ, suc, _-_}
+use Prim.Native.Nat.{ℕ, suc}
 use mathlib.Core.Bool.{_&&_}
 use mathlib.Core.List.{List, [], _∷_}
 use lib.Dec.{T, leb, eqb, eqb→eq, leb→le}
 use mir.Facts.{and-yes}
 use Rattle.window.specs.declared.Refusal.{Refusal}
 use Rattle.window.specs.Cells.{Cell}
-use Rattle.window.specs.Plans.{placed}
 use Rattle.window.proofs.OrderLaws.{Rising}
 use Rattle.srec.specs.Table.{Result, sameList, sameCells, sameRefusal, sameResult, isRising}
 use Rattle.srec.specs.Table.Result.{fails, passes}

@@ -1,10 +1,10 @@
 -- The table of specs/Table.antt holds: the test that is computed for a case gives what the case says of every window.
 use mathlib.Core.Path.{_≡_, ap, _∙_, subst}
-use Prim.Native.Nat.{ℕ, _-_}
+use Prim.Native.Nat.{ℕ}
 use native.Mathlib.Omega.{arith}
 use mathlib.Core.Bool.{_&&_}
 use mathlib.Core.List.{List, [], _∷_}
-use mathlib.Core.Logic.{⊎-elim, _⊎_, inl, inr}
+use mathlib.Core.Logic.{⊎-elim, inl, inr}
 use lib.Dec.{T, leb, eqb, eqb→eq, leb→le}
 use lib.ListN.{length}
 use mir.Facts.{and-yes, or-yes}
@@ -31,7 +31,7 @@ use Rattle.srec.specs.Table.Result.{fails, passes}
 use Rattle.srec.specs.Table.Case.{writes, loads}
 use Rattle.srec.proofs.LoadLaws.{Behind, load-inv}
 use Rattle.srec.proofs.SameLaws.{same-list, same-result, rising-of}
-use Rattle.srec.proofs.ResultLaws.{Sees, Inside, Leads, placed-leads}
+use Rattle.srec.proofs.ResultLaws.{Inside, Leads, placed-leads}
 
 in-list : (W : Window) (a : ℕ) (xs : List ℕ) → T (isIn a xs) → HoldsAll W xs → Holds W a
 in-list W a [] t h = absurd t

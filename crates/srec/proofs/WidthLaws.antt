@@ -2,7 +2,6 @@
 use mathlib.Core.Path.{_≡_, refl, sym, _∙_}
 use Prim.Native.Nat.{ℕ, _*_, _^_, _≤_, _<_}
 use native.Mathlib.Omega.{arith}
-use mathlib.Core.Bool.{cond}
 use mathlib.Core.List.{List, [], _∷_}
 use mathlib.Core.Logic.{_↔_}
 use lib.Dec.{leb, lit≤}
@@ -12,10 +11,9 @@ use Rattle.window.specs.Cells.{Cell, Run}
 use Rattle.window.specs.Plans.{Entry}
 use Rattle.window.proofs.CellLaws.{In, in-flat}
 use Rattle.hex.proofs.TestLaws.{by-test}
-use Rattle.srec.specs.Lines.{Line, lines}
+use Rattle.srec.specs.Lines.{lines}
 use Rattle.srec.specs.Kinds.{Kind}
 use Rattle.srec.specs.Kinds.Kind.{S0, Data, S5, End}
-use Rattle.srec.specs.Reading.{read}
 use Rattle.srec.specs.Reading.Read.{good}
 use Rattle.srec.specs.Writing.{recordText}
 use Rattle.srec.specs.Canonical.{runs, largest, line, dataLines, countLine, canonical}

@@ -4,8 +4,6 @@ use Prim.Native.Nat.{ℕ}
 use mathlib.Core.List.{List}
 use mathlib.Core.Logic.{_↔_}
 use Rattle.window.specs.Windows.{Window, Allowed, Marked}
-use Rattle.srec.specs.declared.Header.{Header}
-use Rattle.srec.specs.declared.Loaded.{Loaded}
 use Rattle.srec.specs.Write.WriteOutcome.{wrote}
 use Rattle.srec.specs.Terms.{SameContent, HoldsCells, loaded, Accepted, after, writtenAfter, Enough, Narrowest}
 

@@ -4,9 +4,7 @@ use Prim.Native.Nat.{ℕ, zero, suc, _<_}
 use mathlib.Core.List.{List, [], _∷_}
 use lib.ListN.{length}
 use Rattle.window.specs.Windows.{Window}
-use Rattle.srec.specs.declared.Loaded.{Loaded}
 use Rattle.srec.specs.Lines.{Line, lines}
-use Rattle.srec.specs.Kinds.{Kind}
 use Rattle.srec.specs.Kinds.Kind.{S0, Data, S5, End}
 use Rattle.srec.specs.Reading.{Read, read}
 use Rattle.srec.specs.Reading.Read.{good, bad}

@@ -5,7 +5,7 @@ use mathlib.Core.List.{List, [], _∷_}
 use lib.Dec.{ltb, eqb}
 use lib.ListN.{length}
 use Rattle.window.specs.declared.Refusal.{Refusal}
-use Rattle.window.specs.Plans.{Entry, Summary, refusal, Plan}
+use Rattle.window.specs.Plans.{Entry, refusal, Plan}
 use Rattle.window.specs.Plans.Plan.{store, stop, done}
 use Rattle.srec.specs.Lines.{Line, lines}
 use Rattle.srec.specs.Kinds.{Kind}

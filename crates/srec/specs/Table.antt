@@ -12,13 +12,13 @@ use Rattle.window.specs.declared.Refusal.{Refusal}
 use Rattle.window.specs.Windows.{Window, Allowed, Holds, row16}
 use Rattle.window.specs.Images.{Image, image}
 use Rattle.window.specs.Cells.{Cell, cells}
-use Rattle.window.specs.Plans.{Entry, Summary, refusal, Plan, Outcome}
+use Rattle.window.specs.Plans.{Entry, refusal, Plan}
 use Rattle.window.specs.Plans.Plan.{store, stop, done}
 use Rattle.window.specs.Plans.Outcome.{refused, accepted}
 use Rattle.srec.specs.Scan.{plan}
 use Rattle.srec.specs.Canonical.{canonical}
 use Rattle.srec.specs.Load.{load}
-use Rattle.srec.specs.Write.{WriteOutcome, write}
+use Rattle.srec.specs.Write.{write}
 use Rattle.srec.specs.Write.WriteOutcome.{wrote}
 
 -- the characters of a string

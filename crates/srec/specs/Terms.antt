@@ -8,10 +8,8 @@ use lib.ListN.{take}
 use Rattle.window.specs.Windows.{Window, Holds}
 use Rattle.window.specs.Cells.{Run, Addressed}
 use Rattle.window.specs.Plans.{Entry}
-use Rattle.srec.specs.declared.Header.{Header}
 use Rattle.srec.specs.declared.Loaded.{Loaded}
 use Rattle.srec.specs.Lines.{Line, lines}
-use Rattle.srec.specs.Kinds.{Kind}
 use Rattle.srec.specs.Kinds.Kind.{S0, Data, S5, End}
 use Rattle.srec.specs.Reading.{Read, read}
 use Rattle.srec.specs.Reading.Read.{good, bad}

@@ -5,14 +5,12 @@ use native.Mathlib.Nat.{zero-add, suc-add}
 use native.Mathlib.Omega.{arith}
 use mathlib.Core.List.{List, [], _∷_, _++_}
 use lib.ListN.{length, take, drop, replicate}
-use mathlib.Core.Bool.{true, false, cond}
 use mathlib.Core.Option.{some}
 use Rattle.window.specs.Plans.{Summary, refusal}
 use Rattle.window.specs.Plans.Plan.{done}
 use Rattle.window.proofs.PlanLaws.{final}
 use Rattle.hex.specs.Digits.{bytes}
 use Rattle.hex.proofs.TestLaws.{by-test}
-use Rattle.srec.specs.declared.Header.{Header}
 use Rattle.srec.specs.Lines.{Line, lines}
 use Rattle.srec.specs.Kinds.{Kind, kindOf, typeOf}
 use Rattle.srec.specs.Kinds.Kind.{S0, Data, S5, End}
@@ -21,7 +19,7 @@ use Rattle.srec.specs.Reading.Read.{good, bad}
 use Rattle.srec.specs.Scan.{start, row8, row9, row10, row11, more, moreData, judge, judged, ended, located, onward, scan, plan}
 use Rattle.srec.specs.Load.{headerOf}
 use Rattle.srec.proofs.ContentLaws.{no-stop, known-header}
-use Rattle.reader.specs.declared.Record.the-variants.{Good, Bad}
+use Rattle.reader.specs.declared.Record.the-variants.{Bad}
 use Rattle.reader.specs.Records.{asRecord}
 use Rattle.reader.proofs.FieldLaws.{Fields, Got}
 use Rattle.reader.proofs.KindLaws.{Known, known-kind}

@@ -1,14 +1,13 @@
 -- The storing pass over a text that was accepted: no row refuses, and memory follows the image.
-use mathlib.Core.Path.{_≡_, refl, sym, ap, _∙_, subst}
-use Prim.Native.Nat.{ℕ, suc, _+_, _-_, _≤_}
+use mathlib.Core.Path.{_≡_, refl, sym, ap, _∙_}
+use Prim.Native.Nat.{ℕ, suc, _-_, _≤_}
 use native.Mathlib.Omega.{arith}
-use mathlib.Core.Bool.{true, false, cond}
 use mathlib.Core.List.{List, [], _∷_}
-use mathlib.Core.Logic.{⊎-elim, _⊎_, inl, inr}
+use mathlib.Core.Logic.{_⊎_, inl, inr}
 use lib.ListN.{length, drop}
 use Rattle.window.specs.declared.Refusal.{Refusal}
 use Rattle.window.specs.Images.{Image, blank, over, overlaid}
-use Rattle.window.specs.Plans.{Summary, refusal, Plan, Outcome, row12, row13, filled, placed}
+use Rattle.window.specs.Plans.{Plan, Outcome, row12, row13, filled, placed}
 use Rattle.window.specs.Plans.Plan.{store}
 use Rattle.window.specs.Plans.Outcome.{refused, accepted}
 use Rattle.window.proofs.ViewLaws.{length-overlaid}
@@ -18,7 +17,7 @@ use Rattle.srec.specs.Lines.{Line, lines}
 use Rattle.srec.specs.Kinds.Kind.{S0, Data, S5, End}
 use Rattle.srec.specs.Reading.{Fault, Read, read}
 use Rattle.srec.specs.Reading.Read.{good, bad}
-use Rattle.srec.specs.Scan.{State as ScanState, start, row8, row9, row10, row11, more, moreData, by-row, judge, judged, ended, located, scan, plan}
+use Rattle.srec.specs.Scan.{State as ScanState, start, row8, row9, row10, row11, more, moreData, judge, judged, ended, scan, plan}
 use Rattle.srec.specs.Scan.Step.{refuse, pass, put, finish}
 use Rattle.srec.specs.Load.{memoryAfter}
 use Rattle.reader.specs.declared.Found.the-variants.{Nothing}

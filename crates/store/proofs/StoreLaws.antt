@@ -1,12 +1,12 @@
 -- What one record that was checked leaves in memory.
 use mathlib.Core.Path.{_≡_, refl, sym, ap, ap₂, _∙_, subst}
-use Prim.Native.Nat.{ℕ, zero, suc, _+_, _-_, _*_, _^_, _≤_, _<_}
+use Prim.Native.Nat.{ℕ, suc, _+_, _-_, _*_, _^_, _≤_, _<_}
 use native.Mathlib.Nat.{add-zero, add-sub-cancel-left}
 use native.Mathlib.Omega.{arith}
-use mathlib.Core.Bool.{true, false, cond}
-use mathlib.Core.List.{List, [], _∷_, _++_, map}
+use mathlib.Core.Bool.{false}
+use mathlib.Core.List.{List, [], _∷_}
 use mathlib.Core.Option.{some}
-use mathlib.Core.Logic.{⊎-elim, _⊎_, inl, inr}
+use mathlib.Core.Logic.{⊎-elim, _⊎_}
 use lib.ListN.{length, getD, take, drop, take-append-drop, length-drop}
 use lib.Seq.{length-take-le}
 use borrow.Rule.Slice.PartMut.{putMid}
@@ -19,8 +19,7 @@ use Rattle.srec.specs.Kinds.{Kind, kindOf, typeOf, width}
 use Rattle.srec.specs.Kinds.Kind.{S0, Data, S5, End}
 use Rattle.srec.specs.Reading.{Read, read}
 use Rattle.srec.specs.Reading.Read.{good, bad}
-use Rattle.srec.proofs.BoundLaws.{Sane, ReadOk, read-ok}
-use Rattle.hex.proofs.TestLaws.{Of}
+use Rattle.srec.proofs.BoundLaws.{ReadOk, read-ok}
 use Rattle.reader.specs.Records.{widthOr0}
 use Rattle.reader.proofs.KindLaws.{Known, known-kind}
 use Rattle.reader.proofs.FieldLaws.{Fields, read-fields}

@@ -3,7 +3,6 @@ use reader::Found;
 use reader::Record;
 use srec::Header;
 ghost use mathlib.Core.Path.{_≡_};
-ghost use Prim.Native.Nat.{_≤_};
 ghost use lib.ListN.{length};
 ghost use Rattle.hex.specs.Digits.{bytes};
 ghost use Rattle.hex.specs.Tables.{digitTable};

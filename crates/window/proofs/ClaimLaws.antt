@@ -2,12 +2,10 @@
 use mathlib.Core.Path.{_≡_, refl, sym, ap, _∙_}
 use Prim.Native.Nat.{ℕ, zero, suc, _+_, _-_}
 use native.Mathlib.Omega.{arith}
-use mathlib.Core.Bool.{Bool, true, false, cond, not, _&&_}
+use mathlib.Core.Bool.{Bool, true, false, cond, not}
 use mathlib.Core.List.{List, [], _∷_, _++_, map}
 use mathlib.Core.Option.{none, some}
-use lib.Dec.{eqb}
 use lib.ListN.{length, take, drop, replicate, length-map, length-replicate}
-use borrow.Author.Tests.{ne-eqb, not-true, not-false}
 use Rattle.window.specs.Images.{Image, over, mark, marksOf}
 use Rattle.window.specs.Plans.{refusal, Plan, anyGiven, row12, row13, filled, placed}
 use Rattle.window.specs.Plans.Plan.{store}

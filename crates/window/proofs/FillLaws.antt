@@ -1,19 +1,19 @@
 -- What stores leave in an image: the cells that were there, and their own.
-use mathlib.Core.Path.{_≡_, refl, sym, ap, ap₂, _∙_}
-use Prim.Native.Nat.{ℕ, suc, _+_, _-_, _≤_, _<_}
+use mathlib.Core.Path.{_≡_, refl, sym, ap, _∙_}
+use Prim.Native.Nat.{ℕ, suc, _+_, _-_, _≤_}
 use native.Mathlib.Nat.{add-zero}
 use native.Mathlib.Omega.{arith}
-use mathlib.Core.Bool.{Bool, false, not, _||_}
+use mathlib.Core.Bool.{false, not, _||_}
 use mathlib.Core.List.{List, [], _∷_, _++_, append-nil, map}
 use mathlib.Core.Option.{some}
 use mathlib.Core.Logic.{⊎-elim, _⊎_, inl, inr, _↔_}
-use lib.Dec.{eqb, ltb}
+use lib.Dec.{ltb}
 use lib.ListN.{length, take, drop, length-append, length-drop, take-append-drop, length-map}
 use lib.Seq.{length-take-le, drop-drop}
 use borrow.Author.Tests.{ne-eqb, ltb-false}
 use Rattle.window.specs.Images.{Image, blank, over}
 use Rattle.window.specs.Cells.{Cell, Run, cells, Hit, Addressed}
-use Rattle.window.specs.Plans.{anyGiven, row12, row13, filled}
+use Rattle.window.specs.Plans.{row12, row13, filled}
 use Rattle.window.proofs.CellLaws.{cellsOf, In, cells-append, cells-none, cells-blank, in-left, in-right, in-cases, hit-in, in-hit, length-cells, total}
 use Rattle.window.proofs.PlanLaws.{fillAll, Room}
 use Rattle.hex.proofs.TestLaws.{or-neither}

@@ -1,22 +1,20 @@
 -- Marks: a flag that is or-ed together, rows 12 and 13 by marks, and marks as a view of an image.
 use mathlib.Core.Path.{_≡_, refl, sym, ap, _∙_}
-use Prim.Native.Nat.{ℕ, zero, suc, _+_, _-_, _≤_, _<_}
+use Prim.Native.Nat.{ℕ, suc, _+_, _-_, _≤_, _<_}
 use native.Mathlib.Nat.{add-zero}
 use native.Mathlib.Numerals.{add-one}
 use native.Mathlib.Omega.{arith}
-use mathlib.Core.Bool.{Bool, true, false, cond, not, _&&_, _||_, and-assoc, and-true}
-use mathlib.Core.List.{List, [], _∷_, _++_, map}
-use mathlib.Core.Option.{none, some}
+use mathlib.Core.Bool.{Bool, true, false, cond, _&&_, and-assoc, and-true}
+use mathlib.Core.List.{List, _++_}
 use lib.Bits.{bitOr, or-add-and, and-le-l, and-le-r}
-use lib.Dec.{eqb, ltb}
-use lib.ListN.{length, getD, take, drop, replicate, drop-of-length-le, take-append-drop, length-map, length-drop, length-replicate}
+use lib.Dec.{eqb}
+use lib.ListN.{length, getD, take, drop, replicate, drop-of-length-le, take-append-drop, length-drop, length-replicate}
 use lib.Seq.{drop-cons, drop-drop, length-take-le}
 use borrow.Rule.Slice.PartMut.{putMid}
-use borrow.Author.Tests.{eqb-true, eqb-false, eq-eqb, ne-eqb, lt-ltb, le-ltb}
-use Rattle.window.specs.Images.{Image, over, mark, marksOf}
-use Rattle.window.specs.Plans.{anyGiven, row12, row13, filled}
+use borrow.Author.Tests.{eqb-true, eqb-false, ne-eqb, lt-ltb, le-ltb}
+use Rattle.window.specs.Images.{over}
+use Rattle.window.specs.Plans.{row12}
 use Rattle.window.specs.Marks.{isFree, claimRow, claimed}
-use Rattle.hex.proofs.TestLaws.{by-test}
 
 -- ---- the flag
 

@@ -4,7 +4,7 @@ use Prim.Native.Nat.{ℕ, suc, _≤_, zero-le}
 use native.Mathlib.Omega.{arith}
 use mathlib.Core.List.{List, [], _∷_}
 use mathlib.Core.Option.{none, some}
-use mathlib.Core.Logic.{⊎-elim, _⊎_, inl, inr, _↔_}
+use mathlib.Core.Logic.{⊎-elim, inl, inr, _↔_}
 use Rattle.window.specs.Images.{Image}
 use Rattle.window.specs.Cells.{Cell, cells}
 use Rattle.window.proofs.CellLaws.{In}

@@ -1,6 +1,6 @@
 -- A plan is accepted exactly where it ends well and each store has room; the image that is left has every store in it.
-use mathlib.Core.Path.{_≡_, refl}
-use Prim.Native.Nat.{ℕ, _≤_}
+use mathlib.Core.Path.{_≡_}
+use Prim.Native.Nat.{ℕ}
 use native.Mathlib.Omega.{arith}
 use mathlib.Core.Bool.{false}
 use mathlib.Core.List.{List, [], _∷_}
@@ -8,7 +8,7 @@ use lib.ListN.{length}
 use Rattle.window.specs.declared.Refusal.{Refusal}
 use Rattle.window.specs.Images.{Image}
 use Rattle.window.specs.Cells.{Run}
-use Rattle.window.specs.Plans.{Summary, refusal, Plan, Outcome, row12, row13, filled, placed}
+use Rattle.window.specs.Plans.{Summary, refusal, Plan, row12, row13, filled, placed}
 use Rattle.window.specs.Plans.Plan.{store, stop, done}
 use Rattle.window.specs.Plans.Outcome.{refused, accepted}
 use Rattle.hex.proofs.TestLaws.{by-test}

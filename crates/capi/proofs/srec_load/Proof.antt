@@ -1,6 +1,5 @@
 -- `srec_load` meets its contract: what the library function answers and leaves.
 use mathlib.Core.Path.{ap}
-use Rattle.window.specs.declared.Refusal.{Refusal}
 use Rattle.srec.specs.declared.Loaded.{Loaded}
 use borrow.Author.Needs.{needs}
 use Rattle.capi.proofs.srec_load.Statement.{statement}

@@ -1,7 +1,7 @@
 -- `check` meets its contract. The loop's invariant: what is left to walk gives what the whole gives, and the marks show its image.
 -- Each way out and each way round is one law of CheckLaws.
 use mathlib.Core.Path.{_≡_, refl, sym, _∙_}
-use Prim.Native.Nat.{ℕ, _-_, _^_, _<_}
+use Prim.Native.Nat.{_-_, _^_, _<_}
 use native.Mathlib.Nat.{lt-of-le-of-lt}
 use native.Mathlib.Omega.{arith}
 use lib.ListN.{length}

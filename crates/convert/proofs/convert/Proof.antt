@@ -1,8 +1,7 @@
 -- `convert` meets its contract: each way out is one law of ConvertLaws.
-use mathlib.Core.Path.{_≡_, sym, ap, _∙_}
-use lib.ListN.{length, take}
+use mathlib.Core.Path.{sym, ap, _∙_}
+use lib.ListN.{length}
 use lib.Seq.{length-take-le}
-use Rattle.window.specs.declared.Refusal.{Refusal}
 use Rattle.srec.specs.declared.Loaded.{Loaded}
 use Rattle.srec.specs.declared.Written.{Written}
 use Rattle.srec.specs.Terms.{Accepted}

@@ -1,8 +1,8 @@
 -- `digit_table` meets its contract. The loop's invariant: the first i entries are those of the table.
 use mathlib.Core.Path.{_≡_, refl, _∙_}
 use Prim.Native.Nat.{ℕ, _-_, _≤_, _<_}
-use mathlib.Core.List.{List, _++_, append-nil}
-use lib.ListN.{length, drop, replicate, drop-of-length-le}
+use mathlib.Core.List.{List, _++_}
+use lib.ListN.{drop, replicate}
 use native.Mathlib.Omega.{arith}
 use Rattle.hex.specs.Tables.{digitOr16, tableFrom, digitTable}
 use Rattle.hex.proofs.TableLaws.{table-more}

@@ -1,6 +1,5 @@
 -- `differs` meets its contract: the two tests of row 9 in order.
 use borrow.Author.Tests.{eq-eqb, ne-eqb}
-use borrow.Author.Needs.{needs}
 use Rattle.judge.proofs.differs.Statement.{statement}
 use Rattle.judge.proofs.differs.Tie as tie
 

@@ -1,14 +1,11 @@
 -- `judge` meets its contract: each way out is one law of JudgeLaws.
-use mathlib.Core.Path.{_≡_, sym, ap, _∙_}
-use Prim.Native.Nat.{ℕ, _+_, _*_, _^_, _≤_, _<_}
+use mathlib.Core.Path.{_≡_, sym, _∙_}
 use native.Mathlib.Omega.{arith}
 use mathlib.Core.Bool.{true, false, not, _&&_}
-use mathlib.Core.Logic.{inl, inr}
 use lib.Dec.{eqb}
 use Rattle.srec.specs.Kinds.{kindOf, known}
 use Rattle.reader.specs.Records.{widthOr0}
-use Rattle.judge.specs.declared.Step.the-variants.{Put}
-use Rattle.judge.proofs.JudgeLaws.{sort-of, row-8, passed-s0, row-10, passed-s5, row-9, Other, other, finished, row-11, stored}
+use Rattle.judge.proofs.JudgeLaws.{sort-of, row-8, passed-s0, row-10, passed-s5, row-9, other, finished, row-11, stored}
 use borrow.Author.Needs.{needs}
 use Rattle.judge.proofs.judge.Statement.{statement}
 use Rattle.judge.proofs.judge.Tie as tie

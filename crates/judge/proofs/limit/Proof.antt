@@ -1,7 +1,6 @@
 -- `limit` meets its contract: the three powers of two.
 use mathlib.Core.Path.{_≡_}
 use native.Mathlib.Omega.{arith}
-use borrow.Author.Needs.{needs}
 use Rattle.judge.proofs.limit.Statement.{statement}
 use Rattle.judge.proofs.limit.Tie as tie
 

@@ -1,7 +1,6 @@
 -- `is_end` meets its contract: the two tests of `isEnd` in order.
 use borrow.Author.Tests.{eq-eqb, ne-eqb}
 use Rattle.srec.specs.Lines.{isEnd}
-use borrow.Author.Needs.{needs}
 use Rattle.reader.proofs.is_end.Statement.{statement}
 use Rattle.reader.proofs.is_end.Tie as tie
 

@@ -1,15 +1,15 @@
 -- `read_record` meets its contract: each way out is one law of ReadLaws.
-use mathlib.Core.Path.{_≡_, refl, sym, ap, _∙_}
+use mathlib.Core.Path.{_≡_, sym, ap, _∙_}
 use Prim.Native.Nat.{ℕ, _+_, _-_, _*_, _%_, _≤_}
 use native.Mathlib.Nat.{add-sub-cancel-left}
 use native.Mathlib.Omega.{arith}
-use mathlib.Core.Bool.{Bool, true, false, not}
+use mathlib.Core.Bool.{true, false}
 use borrow.Author.Tests.{not-true, not-false}
 use lib.ListN.{length, getD, take, drop, length-drop}
 use Rattle.hex.specs.Digits.{bytes, firstBad}
 use Rattle.hex.specs.Numbers.{number, sum}
 use Rattle.srec.specs.Kinds.{kindOf, known}
-use Rattle.srec.specs.Reading.{row6, read}
+use Rattle.srec.specs.Reading.{row6}
 use Rattle.reader.specs.declared.Record.the-variants.{Good, Bad}
 use Rattle.reader.specs.Records.{asRecord}
 use Rattle.reader.proofs.KindLaws.{known-type, unknown-type, row-6-inv}

@@ -1,5 +1,5 @@
 -- `header_of` meets its contract: the first record's header, or none.
-use mathlib.Core.Path.{refl, sym, ap, _∙_}
+use mathlib.Core.Path.{sym, ap, _∙_}
 use Prim.Native.Nat.{zero-le}
 use native.Mathlib.Omega.{arith}
 use Rattle.reader.proofs.WalkLaws.{Next, next-is, next-none}

@@ -2,8 +2,7 @@
 use mathlib.Core.Path.{_≡_}
 use Prim.Native.Nat.{_-_, _≤_}
 use native.Mathlib.Omega.{arith}
-use lib.ListN.{length, drop, length-drop}
-use denote.Ref.{now}
+use lib.ListN.{length}
 use Rattle.hex.specs.Tables.{digitTable}
 use borrow.Author.Needs.{needs}
 use Rattle.vectors.proofs.run_cases.Statement.{statement}

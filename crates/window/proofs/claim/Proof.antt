@@ -1,13 +1,11 @@
 -- `claim` meets its contract: each way out is one law of MarkLaws.
-use mathlib.Core.Path.{_≡_, sym, ap, _∙_}
-use Prim.Native.Nat.{_+_, _-_, _≤_, _<_}
+use mathlib.Core.Path.{_≡_, sym, _∙_}
+use Prim.Native.Nat.{_-_}
 use native.Mathlib.Nat.{add-sub-cancel-left}
 use native.Mathlib.Omega.{arith}
 use mathlib.Core.Bool.{true, false}
 use borrow.Author.Tests.{not-true, not-false}
-use lib.ListN.{length, take, drop}
-use lib.Seq.{drop-drop, length-take-le}
-use Rattle.window.specs.Images.{over}
+use lib.ListN.{take, drop}
 use Rattle.window.specs.Marks.{isFree}
 use Rattle.window.proofs.MarkLaws.{lent-filled, claim-none, row-12-low, row-12-high, row-13, claim-free}
 use borrow.Author.Needs.{needs}
