@@ -1,17 +1,16 @@
 // The C face: two thin functions over the library. include/srec.h declares them.
 ghost use mathlib.Core.Path.{_≡_};
 ghost use lib.ListN.{length};
-ghost use Rattle.srec.specs.Load.{loadAnswer, memoryAfter, marksAfter};
+ghost use Rattle.srec.specs.Load.{load, loadAnswer, memoryAfter, marksAfter};
 ghost use Rattle.srec.specs.Write.{write, writeAnswer, outputAfter};
-ghost use Rattle.load.specs.Outcomes.{outcome};
 ghost use Rattle.window.specs.Windows.{windowOf};
 
 // Loads a text into a window: the refusal's number, 0 for accepted.
 #[no_mangle]
 pub extern "C" fn srec_load(text: &[u8], base: u32, memory: &mut [u8], marks: &mut [u8]) -> u32
-    ensures answer { λ r. ⌜ r ≡ loadAnswer (outcome base (now (memory .entry)) (now (marks .entry)) (now (text .entry))) .refusal .reason ⌝ }
-    ensures memory { λ _. ⌜ now (memory .exit) ≡ memoryAfter (now (memory .entry)) (outcome base (now (memory .entry)) (now (marks .entry)) (now (text .entry))) ⌝ }
-    ensures marks { λ _. ⌜ now (marks .exit) ≡ marksAfter (now (marks .entry)) (outcome base (now (memory .entry)) (now (marks .entry)) (now (text .entry))) ⌝ }
+    ensures answer { λ r. ⌜ r ≡ loadAnswer (load (windowOf base (now (memory .entry)) (now (marks .entry))) (now (text .entry))) .refusal .reason ⌝ }
+    ensures memory { λ _. ⌜ now (memory .exit) ≡ memoryAfter (now (memory .entry)) (load (windowOf base (now (memory .entry)) (now (marks .entry))) (now (text .entry))) ⌝ }
+    ensures marks { λ _. ⌜ now (marks .exit) ≡ marksAfter (now (marks .entry)) (load (windowOf base (now (memory .entry)) (now (marks .entry))) (now (text .entry))) ⌝ }
 {
     let loaded = load::load(text, base, memory, marks);
     let refusal = loaded.refusal;

@@ -98,7 +98,7 @@ fn address_bytes(address: u32) -> [u8; 4]
     ]
 }
 
-// The same with an address in `width` bytes: the last of its four.
+// Writes a record whose address has `width` bytes, the last of its four, and its line end, into a part just as long.
 pub fn put_record(out: &mut [u8], kind: u8, width: usize, address: u32, bytes: &[u8])
     requires { ⌜ (width ≤ 4) × (width + length (now bytes) ≤ 254) ⌝ }
     requires { ⌜ length (now out) ≡ 7 + 2 * width + 2 * length (now bytes) ⌝ }

@@ -4,7 +4,7 @@ use Prim.Native.Nat.{ℕ, suc, _+_, _*_, _^_, _≤_, _<_}
 use native.Mathlib.Nat.{add-zero}
 use native.Mathlib.Numerals.{add-one}
 use native.Mathlib.Omega.{arith}
-use mathlib.Core.Bool.{true, false, not, _&&_}
+use mathlib.Core.Bool.{true, false, not}
 use mathlib.Core.List.{List, []}
 use mathlib.Core.Option.{Option, none, some}
 use mathlib.Core.Logic.{_⊎_, inl, inr}
@@ -94,20 +94,20 @@ module _ (n : State) (k : Kind) (a count : ℕ) where
   pub other : (c : ℕ) {w : ℕ} → Sort c w k → (c ≡ 48 → ⊥) → (c ≡ 53 → ⊥) → Other w
   other c t z f = by-test (ltb 53 c) (λ e. inr (t .end-is (ltb-true 53 c e))) (λ e. inl (t .data-is z f (ltb-false 53 c e)))
 
-  pub row-9 : (w : ℕ) → Other w → (not (eqb (n .width) 0) && not (eqb (n .width) w)) ≡ true → Refuse 9 ≡ taken
+  pub row-9 : (w : ℕ) → Other w → row9 (n .width) w ≡ true → Refuse 9 ≡ taken
   unfolding judge row9
   row-9 w (inl e) z = rw (e, z)
   row-9 w (inr e) z = rw (e, z)
 
-  pub finished : (w : ℕ) → k ≡ End w → (not (eqb (n .width) 0) && not (eqb (n .width) w)) ≡ false → Finish next ≡ taken
+  pub finished : (w : ℕ) → k ≡ End w → row9 (n .width) w ≡ false → Finish next ≡ taken
   unfolding judge row9
   finished w e z = rw (e, z, add-one)
 
-  pub row-11 : (w : ℕ) → k ≡ Data w → (not (eqb (n .width) 0) && not (eqb (n .width) w)) ≡ false → 2 ^ (8 * w) < a + count → Refuse 11 ≡ taken
+  pub row-11 : (w : ℕ) → k ≡ Data w → row9 (n .width) w ≡ false → 2 ^ (8 * w) < a + count → Refuse 11 ≡ taken
   unfolding judge row9 row11
   row-11 w e z l = rw (e, z, length-replicate, lt-ltb (2 ^ (8 * w)) (a + count) l)
 
-  pub stored : (w : ℕ) → k ≡ Data w → (not (eqb (n .width) 0) && not (eqb (n .width) w)) ≡ false → a + count ≤ 2 ^ (8 * w)
+  pub stored : (w : ℕ) → k ≡ Data w → row9 (n .width) w ≡ false → a + count ≤ 2 ^ (8 * w)
       → Put (record { number = n .number + 1; records = n .records + 1; cells = n .cells + count; width = w }) ≡ taken
   unfolding judge row9 row11
   stored w e z l = rw (e, z, length-replicate, le-ltb (2 ^ (8 * w)) (a + count) l, add-one (n .number), add-one (n .records))
@@ -119,10 +119,10 @@ pub judge-numbers : (s : ScanState) (k : Kind) (a : ℕ) (ds : List ℕ)
 unfolding judge row8 row9 row10 row11
 judge-numbers s S0 a ds = by-test (not (eqb (s .number) 0)) (λ e. rw e refl) (λ e. rw e refl)
 judge-numbers s (Data w) a ds =
-    by-test (not (eqb (s .firstWidth) 0) && not (eqb (s .firstWidth) w)) (λ e. rw e refl)
+    by-test (row9 (s .firstWidth) w) (λ e. rw e refl)
     (λ e. by-test (ltb (2 ^ (8 * w)) (a + length ds)) (λ f. rw (e, length-replicate, f) refl) (λ f. rw (e, length-replicate, f) refl))
 judge-numbers s S5 a ds = by-test (not (eqb a (s .records))) (λ e. rw e refl) (λ e. rw e refl)
-judge-numbers s (End w) a ds = by-test (not (eqb (s .firstWidth) 0) && not (eqb (s .firstWidth) w)) (λ e. rw e refl) (λ e. rw e refl)
+judge-numbers s (End w) a ds = by-test (row9 (s .firstWidth) w) (λ e. rw e refl) (λ e. rw e refl)
 
 -- n data records and m data bytes came to a state, and one record
 pub record Grown (s u : ScanState) (n m : ℕ) : Type 0 where
@@ -144,10 +144,10 @@ fair : (s : ScanState) (k : Kind) (a : ℕ) (ds : List ℕ) → Of (Fair s a ds)
 unfolding judge
 fair s S0 a ds = either (row8 s) (record { got = refl }) (record { got = one-more s ds })
 fair s (Data w) a ds =
-    either (row9 s w) (record { got = refl }) (either (row11 w a (length ds)) (record { got = refl })
+    either (row9 (s .firstWidth) w) (record { got = refl }) (either (row11 w a (length ds)) (record { got = refl })
     (record { got = (refl, refl, record { number = refl; records = sym (add-one (s .records)); cells = refl }) }))
 fair s S5 a ds = either (row10 s a) (record { got = refl }) (record { got = one-more s (s .header) })
-fair s (End w) a ds = either (row9 s w) (record { got = refl }) (record { got = (refl, one-more s (s .header)) })
+fair s (End w) a ds = either (row9 (s .firstWidth) w) (record { got = refl }) (record { got = (refl, one-more s (s .header)) })
 
 -- what the code's step says of the definitions' step
 abbrev pub Says : ScanState → ℕ → List ℕ → Step → ScanStep → Type 0

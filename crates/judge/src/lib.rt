@@ -1,12 +1,11 @@
 // One record against what came before it: rows 8 to 11, on numbers, without the text and without a buffer.
 ghost use mathlib.Core.Path.{_≡_};
-ghost use mathlib.Core.Bool.{true, not, _&&_};
+ghost use mathlib.Core.Bool.{true};
 ghost use Prim.Native.Nat.{_+_, _*_, _^_, _≤_, _<_};
 ghost use mathlib.Core.List.{[]};
-ghost use lib.Dec.{eqb};
 ghost use lib.ListN.{replicate};
 ghost use Rattle.srec.specs.Kinds.{kindOf, isKnown, known};
-ghost use Rattle.srec.specs.Scan.{start as startScan, judge as judgeScan};
+ghost use Rattle.srec.specs.Scan.{start as startScan, row9, judge as judgeScan};
 ghost use Rattle.judge.specs.Steps.{numbers, stateWith, asStep};
 
 // What was read so far: records, data records, their data bytes, and the first data record's address bytes (0: none yet).
@@ -37,9 +36,9 @@ pub fn start() -> State
     }
 }
 
-// Has the first data record another width? Row 9.
+// Row 9: is there a first data record, of another width?
 fn differs(first: usize, width: usize) -> bool
-    ensures { λ r. ⌜ r ≡ (not (eqb first 0) && not (eqb first width)) ⌝ }
+    ensures { λ r. ⌜ r ≡ row9 first width ⌝ }
 {
     first != 0 && first != width
 }
@@ -70,12 +69,14 @@ pub fn judge(state: State, kind: u8, address: u32, count: usize) -> Step
         cells: state.cells,
         width: state.width,
     };
+    // S0
     if kind == 48 {
         if state.number != 0 {
             return Step::Refuse(8);
         }
         return Step::Pass(next);
     }
+    // S5
     if kind == 53 {
         if address as usize != state.records {
             return Step::Refuse(10);
@@ -86,6 +87,7 @@ pub fn judge(state: State, kind: u8, address: u32, count: usize) -> Step
     if differs(state.width, width) {
         return Step::Refuse(9);
     }
+    // a terminator
     if kind > 53 {
         return Step::Finish(next);
     }

@@ -6,7 +6,7 @@ use mathlib.Core.List.{List}
 use lib.ListN.{length, replicate, length-replicate}
 use borrow.Author.Tests.{eq-eqb, ne-eqb, lt-ltb, le-ltb}
 use Rattle.window.specs.declared.Refusal.{Refusal}
-use Rattle.window.specs.Windows.{row1}
+use Rattle.window.specs.Windows.{row1, windowOf}
 use Rattle.window.specs.Images.{Image, blank, marksOf}
 use Rattle.window.specs.Plans.{Summary, refusal, Outcome, placed}
 use Rattle.window.specs.Plans.Outcome.{refused, accepted}
@@ -20,8 +20,10 @@ use Rattle.checker.specs.declared.Checked.the-variants.{Refused, Accepted}
 use Rattle.checker.specs.Answers.{Told}
 use Rattle.store.specs.Stores.{Accepts}
 use Rattle.store.specs.Headers.{firstHeader}
-use Rattle.load.specs.Outcomes.{outcome}
 use Rattle.store.proofs.HeaderLaws.{header-first}
+
+abbrev pub outcome : ℕ → List ℕ → List ℕ → List ℕ → Outcome
+outcome base memory marks text = load (windowOf base memory marks) text
 
 -- what a load with this outcome answers and leaves
 abbrev pub Answered : List ℕ → List ℕ → Outcome → Loaded → List ℕ → List ℕ → Type 0

@@ -4,10 +4,10 @@ use srec::Header;
 use srec::Loaded;
 use window::Refusal;
 ghost use mathlib.Core.Path.{_≡_};
+ghost use Rattle.window.specs.Windows.{windowOf};
 ghost use Rattle.window.specs.Plans.{refusal};
 ghost use Rattle.window.specs.Plans.Outcome.{refused};
-ghost use Rattle.srec.specs.Load.{loadAnswer, memoryAfter, marksAfter};
-ghost use Rattle.load.specs.Outcomes.{outcome};
+ghost use Rattle.srec.specs.Load.{load, loadAnswer, memoryAfter, marksAfter};
 
 // The answer of a load that is refused.
 fn refused_answer(refusal: Refusal) -> Loaded
@@ -40,25 +40,17 @@ fn accepted_answer(header: Header, entry: u32, records: usize, cells: usize) -> 
 
 // Loads a text into a window. Nothing is stored before the whole text was checked, so a refusal leaves memory unchanged.
 pub fn load(text: &[u8], base: u32, memory: &mut [u8], marks: &mut [u8]) -> Loaded
-    ensures answer { λ r. ⌜ r ≡ loadAnswer (outcome base (now (memory .entry)) (now (marks .entry)) (now (text .entry))) ⌝ }
-    ensures memory { λ _. ⌜ now (memory .exit) ≡ memoryAfter (now (memory .entry)) (outcome base (now (memory .entry)) (now (marks .entry)) (now (text .entry))) ⌝ }
-    ensures marks { λ _. ⌜ now (marks .exit) ≡ marksAfter (now (marks .entry)) (outcome base (now (memory .entry)) (now (marks .entry)) (now (text .entry))) ⌝ }
+    ensures answer { λ r. ⌜ r ≡ loadAnswer (load (windowOf base (now (memory .entry)) (now (marks .entry))) (now (text .entry))) ⌝ }
+    ensures memory { λ _. ⌜ now (memory .exit) ≡ memoryAfter (now (memory .entry)) (load (windowOf base (now (memory .entry)) (now (marks .entry))) (now (text .entry))) ⌝ }
+    ensures marks { λ _. ⌜ now (marks .exit) ≡ marksAfter (now (marks .entry)) (load (windowOf base (now (memory .entry)) (now (marks .entry))) (now (text .entry))) ⌝ }
 {
     window::fill(marks, 0);
     let low = base as usize;
     if marks.len() != memory.len() {
-        return refused_answer(Refusal {
-            reason: 1,
-            ordinal: 0,
-            place: 0,
-        });
+        return refused_answer(window::refuse(1, 0, 0));
     }
     if memory.len() > 4294967296 - low {
-        return refused_answer(Refusal {
-            reason: 1,
-            ordinal: 0,
-            place: 0,
-        });
+        return refused_answer(window::refuse(1, 0, 0));
     }
     let table = hex::digit_table();
     let checked = checker::check(&table, text, low, marks);

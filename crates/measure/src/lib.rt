@@ -5,7 +5,8 @@ ghost use Prim.Native.Nat.{ℕ, _+_, _^_, _≤_, _<_, max};
 ghost use lib.ListN.{length, drop};
 ghost use Rattle.window.specs.Windows.{windowOf, firstBadMark};
 ghost use Rattle.srec.specs.Canonical.{widthFor};
-ghost use Rattle.measure.specs.Walks.{shown, gap, runOn};
+ghost use Rattle.window.specs.Cells.{shown};
+ghost use Rattle.measure.specs.Walks.{gap, runOn};
 ghost use Rattle.measure.specs.Sizes.{sizeOf};
 
 // How many data records and cells a text has, and its largest address, entry included.

@@ -97,6 +97,7 @@ fn fits(kind: u8, width: usize, n: usize, count: usize) -> bool
     if count < width + 1 {
         return false;
     }
+    // S0 to S3 may have data
     if kind <= 51 {
         return true;
     }

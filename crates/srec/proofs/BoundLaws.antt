@@ -91,9 +91,9 @@ judge-ok : (s : State) (k : Kind) (a : ℕ) (ds : List ℕ) → Sane (s .header)
 unfolding judge
 judge-ok s S0 a ds h d l = either (row8 s) (by s 7) (record { got = (d, refl, refl) })
 judge-ok s (Data w) a ds h d l =
-    either (row9 s w) (by s 8) (either (row11 w a (length ds)) (by s 10) (record { got = (h, refl, refl, d .bytes) }))
+    either (row9 (s .firstWidth) w) (by s 8) (either (row11 w a (length ds)) (by s 10) (record { got = (h, refl, refl, d .bytes) }))
 judge-ok s S5 a ds h d l = either (row10 s a) (by s 9) (record { got = (h, refl, refl) })
-judge-ok s (End w) a ds h d l = either (row9 s w) (by s 8) (record { got = (h, refl, refl, l) })
+judge-ok s (End w) a ds h d l = either (row9 (s .firstWidth) w) (by s 8) (record { got = (h, refl, refl, l) })
 
 judged-ok : (s : State) (r : Read) → Sane (s .header) → ReadOk r → StepOk s (judged s r)
 judged-ok s (good k a ds) h o = judge-ok s k a ds h (o .0) (o .1) .got

@@ -47,12 +47,12 @@ module _ (t : Summary) where
   from-end : (size n at : ℕ) (s : State) (ls : List Line) (w a : ℕ) (ds : List ℕ) → From size n at s ls (good (End w) a ds)
   unfolding judge
   from-end size n at s [] w a ds q =
-      by-test (row9 s w) (λ b. absurd (no-stop (refusal 9 n (at + 0)) (rw b at q)))
+      by-test (row9 (s .firstWidth) w) (λ b. absurd (no-stop (refusal 9 n (at + 0)) (rw b at q)))
       (λ b. let k : done (record { header = s .header; entry = a; records = s .records; cells = s .cells }) ≡ done t = rw b at q in
       let m : record { header = s .header; entry = a; records = s .records; cells = s .cells } ≡ t = cc in
       rw b (record { asks = refl; entry = ap (λ (x : Summary). x .entry) (sym m); header = λ l. ap (λ (x : Summary). x .header) (sym m); no-more = λ l. refl; first = λ z. ap (λ (x : Summary). x .header) (sym m) ∙ z }))
   from-end size n at s (l ∷ ls) w a ds q =
-      by-test (row9 s w) (λ b. absurd (no-stop (refusal 9 n (at + 0)) (rw b at q)))
+      by-test (row9 (s .firstWidth) w) (λ b. absurd (no-stop (refusal 9 n (at + 0)) (rw b at q)))
       (λ b. absurd (no-stop (refusal 2 (suc (suc (s .number))) (l .place)) (rw b at q)))
 
   -- a record that leaves the header as it is
@@ -74,7 +74,7 @@ module _ (t : Summary) where
       let k : Carries (suc (s .number)) ds (dataRecords ls) (entryAmong ls) (headerAmong ls) (scan size (more s ds) ls) t = g (more s ds) (rw b at q) in
       record { asks = k .asks; entry = k .entry; header = λ l. absurd (late l); no-more = λ l. absurd (late l); first = λ z. k .header (omega arith) }))
   from-record size n at s ls g (good (Data w) a ds) q =
-      by-test (row9 s w) (λ b. absurd (no-stop (refusal 9 n (at + 0)) (rw b at q)))
+      by-test (row9 (s .firstWidth) w) (λ b. absurd (no-stop (refusal 9 n (at + 0)) (rw b at q)))
       (λ b. by-test (row11 w a (length ds)) (λ v. absurd (no-stop (refusal 11 n (at + 0)) (rw (b, v) at q)))
       (λ v. rw (b, v) (let k : Carries (s .number) (s .header) (dataRecords ls) (entryAmong ls) (headerAmong ls) (scan size (moreData s w (length ds)) ls) t
       = same-header (g (moreData s w (length ds)) (rw (b, v) at q)) in

@@ -59,14 +59,14 @@ module _ (t : Summary) where
   counted size n at s ls g (good S0 a ds) q =
       by-test (row8 s) (λ b. absurd (no-stop t (refusal 8 n (at + 0)) (rw b at q))) (λ b. g (more s ds) (rw b at q))
   counted size n at s ls g (good (Data w) a ds) q =
-      by-test (row9 s w) (λ b. absurd (no-stop t (refusal 9 n (at + 0)) (rw b at q)))
+      by-test (row9 (s .firstWidth) w) (λ b. absurd (no-stop t (refusal 9 n (at + 0)) (rw b at q)))
       (λ b. by-test (row11 w a (length ds)) (λ v. absurd (no-stop t (refusal 11 n (at + 0)) (rw (b, v) at q))) (λ v. g (moreData s w (length ds)) (rw (b, v) at q)))
   counted size n at s ls g (good S5 a ds) q =
       by-test (row10 s a) (λ b. absurd (no-stop t (refusal 10 n (at + 0)) (rw b at q)))
       (λ b. (eqb-true a (s .records) (not-false (eqb a (s .records)) b), g (more s (s .header)) (rw b at q)))
   counted size n at s [] g (good (End w) a ds) q = tt
   counted size n at s (l ∷ ls) g (good (End w) a ds) q =
-      by-test (row9 s w) (λ b. absurd (no-stop t (refusal 9 n (at + 0)) (rw b at q)))
+      by-test (row9 (s .firstWidth) w) (λ b. absurd (no-stop t (refusal 9 n (at + 0)) (rw b at q)))
       (λ b. absurd (no-stop t (refusal 2 (suc (suc (s .number))) (l .place)) (rw b at q)))
 
   true-counts : (size : ℕ) (ls : List Line) → Later size ls

@@ -6,8 +6,9 @@ pub mod BoundLaws
 pub mod ContentLaws
 pub mod LoadLaws
 pub mod WidthLaws
-pub mod Demand3
+pub mod RoundTrip
 pub mod Facts
+pub mod TableTests
 pub mod SameLaws
 pub mod ResultLaws
 pub mod TableLaws

@@ -130,10 +130,6 @@ module _ (k : Kind) (a : ℕ) (ds : List ℕ) (h : Fit k a ds) where
       read-pairs (typeOf k) k all (h .known) bytes-all (omega (arith, length-all)) (omega (arith, length-all, h .short)) no-six no-seven
       ∙ (λ i. good k (address-all i) (data-all i))
 
-  pub length-record : length (recordText k a ds) ≡ 4 + 2 * count
-  unfolding recordText all ck
-  length-record = omega (arith, length-pairs all, length-all)
-
   -- the written bytes are bytes, for the laws on lines
   pub record-digits : (P : List ℕ → Type 0) → ((bs : List ℕ) → Bytes bs → P (83 ∷ typeOf k ∷ digitsOf bs)) → P (recordText k a ds)
   unfolding recordText all ck

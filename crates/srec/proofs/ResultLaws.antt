@@ -21,7 +21,8 @@ use Rattle.window.proofs.FillLaws.{filled-none, left, middle, right, length-lef
 use Rattle.window.proofs.RoomLaws.{filled-length, not-row12}
 use Rattle.hex.proofs.TestLaws.{by-test, T-true, true-T}
 use Rattle.srec.specs.Scan.{plan}
-use Rattle.srec.specs.Table.{Result, meets, result, asked}
+use Rattle.srec.specs.Table.{Result}
+use Rattle.srec.proofs.TableTests.{meets, result, asked}
 use Rattle.srec.specs.Table.Result.{fails, passes}
 
 -- ---- row 13 on a list of cells

@@ -8,7 +8,8 @@ use mir.Facts.{and-yes}
 use Rattle.window.specs.declared.Refusal.{Refusal}
 use Rattle.window.specs.Cells.{Cell}
 use Rattle.window.proofs.OrderLaws.{Rising}
-use Rattle.srec.specs.Table.{Result, sameList, sameCells, sameRefusal, sameResult, isRising}
+use Rattle.srec.specs.Table.{Result}
+use Rattle.srec.proofs.TableTests.{sameList, sameCells, sameRefusal, sameResult, isRising}
 use Rattle.srec.specs.Table.Result.{fails, passes}
 
 pub same-list : (x y : List ℕ) → T (sameList x y) → x ≡ y

@@ -26,7 +26,8 @@ use Rattle.srec.specs.Scan.{row8, row9, row10, row11, judge, plan}
 use Rattle.srec.specs.Canonical.{joins, widthFor, line, countLine, canonical}
 use Rattle.srec.specs.Load.{load}
 use Rattle.srec.specs.Write.{textOf, row15, row17, write}
-use Rattle.srec.specs.Table.{codes, Result, Case, Gives, HoldsAll, Claim, All, table, result, asked, isIn, allIn, sameList, sameResult, ordered, passing, allPass}
+use Rattle.srec.specs.Table.{codes, Result, Case, Gives, HoldsAll, Claim, All, table}
+use Rattle.srec.proofs.TableTests.{result, asked, isIn, allIn, sameList, sameResult, ordered, passing, allPass}
 use Rattle.srec.specs.Table.Result.{fails, passes}
 use Rattle.srec.specs.Table.Case.{writes, loads}
 use Rattle.srec.proofs.LoadLaws.{Behind, load-inv}
@@ -80,5 +81,5 @@ unfolding table plan canonical line recordText digit checksum joins widthFor cou
 table-passes = tt
 
 -- the starred lines, in every window that each allows
-pub starred : All table
-starred = laws table table-passes
+pub table-holds : All table
+table-holds = laws table table-passes

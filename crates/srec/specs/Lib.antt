@@ -7,6 +7,6 @@ pub mod Canonical
 pub mod Load
 pub mod Write
 pub mod Terms
-pub mod Demand3
+pub mod RoundTrip
 pub mod Facts
 pub mod Table

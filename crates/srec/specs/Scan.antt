@@ -31,6 +31,7 @@ pub data Step : Type 0 where
   put : State → ℕ → List ℕ → Step
   finish : State → Entry → Step
 
+-- refused by this row, at its first character
 abbrev pub by-row : ℕ → Step
 by-row reason = refuse (record { reason = reason; offset = 0 })
 
@@ -38,9 +39,9 @@ by-row reason = refuse (record { reason = reason; offset = 0 })
 unfoldable pub row8 : State → Bool
 row8 s = not (eqb (s .number) 0)
 
--- row 9: the width differs from the first data record's
-unfoldable pub row9 : State → ℕ → Bool
-row9 s w = not (eqb (s .firstWidth) 0) && not (eqb (s .firstWidth) w)
+-- row 9: the width w differs from the first data record's, if there was one
+unfoldable pub row9 : ℕ → ℕ → Bool
+row9 first w = not (eqb first 0) && not (eqb first w)
 
 -- row 10: an S5 whose number differs from the data records before it
 unfoldable pub row10 : State → ℕ → Bool
@@ -62,10 +63,11 @@ moreData s w n = record { number = suc (s .number); header = s .header; records 
 unfoldable pub judge : State → Kind → ℕ → List ℕ → Step
 judge s S0 a ds = cond (row8 s) (by-row 8) (pass (more s ds))
 judge s (Data w) a ds =
-    cond (row9 s w) (by-row 9) (cond (row11 w a (length ds)) (by-row 11) (put (moreData s w (length ds)) a ds))
+    cond (row9 (s .firstWidth) w) (by-row 9) (cond (row11 w a (length ds)) (by-row 11) (put (moreData s w (length ds)) a ds))
 judge s S5 a ds = cond (row10 s a) (by-row 10) (pass (more s (s .header)))
-judge s (End w) a ds = cond (row9 s w) (by-row 9) (finish (more s (s .header)) a)
+judge s (End w) a ds = cond (row9 (s .firstWidth) w) (by-row 9) (finish (more s (s .header)) a)
 
+-- what a record does that is read, or cannot be read
 abbrev pub judged : State → Read → Step
 judged s (bad f) = refuse f
 judged s (good k a ds) = judge s k a ds

@@ -1,21 +1,17 @@
--- The starred lines of 01, "Lines to try on both sides", as one table over the definitions of load and write.
-use Prim.Native.Nat.{ℕ, suc, _+_, _≤_}
+-- The starred lines of 01, "Lines to try on both sides", and two more of them, as one table over the definitions of load and write.
+use Prim.Native.Nat.{ℕ, _≤_}
 use Prim.Native.String.{String}
 use Prim.Native.Char.{code}
 use mathlib.Core.Path.{_≡_}
-use mathlib.Core.Bool.{Bool, true, false, cond, _&&_, _||_}
-use mathlib.Core.List.{List, [], _∷_, _++_, map}
-use mathlib.Core.Option.{some}
-use lib.Dec.{leb, ltb, eqb}
+use mathlib.Core.Bool.{false}
+use mathlib.Core.List.{List, [], _∷_}
 use lib.ListN.{length}
 use Rattle.window.specs.declared.Refusal.{Refusal}
 use Rattle.window.specs.Windows.{Window, Allowed, Holds, row16}
-use Rattle.window.specs.Images.{Image, image}
-use Rattle.window.specs.Cells.{Cell, cells}
-use Rattle.window.specs.Plans.{Entry, refusal, Plan}
-use Rattle.window.specs.Plans.Plan.{store, stop, done}
+use Rattle.window.specs.Images.{Image}
+use Rattle.window.specs.Cells.{Cell, cells, shown}
+use Rattle.window.specs.Plans.{Entry, refusal}
 use Rattle.window.specs.Plans.Outcome.{refused, accepted}
-use Rattle.srec.specs.Scan.{plan}
 use Rattle.srec.specs.Canonical.{canonical}
 use Rattle.srec.specs.Load.{load}
 use Rattle.srec.specs.Write.{write}
@@ -50,7 +46,7 @@ HoldsAll W (a ∷ addresses) = Holds W a × HoldsAll W addresses
 -- what a case says, of every window
 abbrev pub Claim : Case → Type 0
 Claim (writes cs h e t) =
-    (W : Window) (room : ℕ) → Allowed W → row16 (W .marks) ≡ false → cells (W .base) (image (W .memory) (W .marks)) ≡ cs
+    (W : Window) (room : ℕ) → Allowed W → row16 (W .marks) ≡ false → shown W ≡ cs
     → length (codes t) ≤ room → write W h e room ≡ wrote (codes t)
 Claim (loads t addresses r) = (W : Window) → Allowed W → HoldsAll W addresses → Gives r W (codes t)
 
@@ -88,69 +84,6 @@ table =
     ∷ loads "S1040000AA51\nS804000000FB\n" (0 ∷ []) (row 9 2 13)
     ∷ loads "S5030001FB" [] (row 10 1 0)
     ∷ loads "S5030001FB\nS9030000FC\n" [] (row 10 1 0)
+    ∷ loads "S10200FD" [] (row 6 1 0)
+    ∷ loads "S9030000FC\nx" [] (row 2 2 11)
     ∷ []
-
--- ---- the test that is computed for each case
-
--- what a plan leads to in any window that holds what it asks for: only row 13 can still refuse it
-abbrev pub meets : List Cell → ℕ → ℕ → Bool
-meets [] a n = false
-meets (c ∷ cs) a n = (leb a (c .addr) && ltb (c .addr) (a + n)) || meets cs a n
-
-abbrev pub result : List Cell → Plan → Result
-result taken (store n at a ds p) =
-    let r = result (taken ++ cells a (map some ds)) p in
-    cond (meets taken a (length ds)) (row 13 n at) r
-result taken (stop f) = fails f
-result taken (done s) = passes (s .header) (s .entry) (s .records) taken
-
--- the cells that a plan asks for, and whether their addresses are all in a list
-abbrev pub asked : Plan → List Cell
-asked (store n at a ds p) = cells a (map some ds) ++ asked p
-asked (stop f) = []
-asked (done s) = []
-
-abbrev pub isIn : ℕ → List ℕ → Bool
-isIn a [] = false
-isIn a (x ∷ xs) = eqb a x || isIn a xs
-
-abbrev pub allIn : List Cell → List ℕ → Bool
-allIn [] xs = true
-allIn (c ∷ cs) xs = isIn (c .addr) xs && allIn cs xs
-
-abbrev pub sameList : List ℕ → List ℕ → Bool
-sameList [] [] = true
-sameList [] (y ∷ ys) = false
-sameList (x ∷ xs) [] = false
-sameList (x ∷ xs) (y ∷ ys) = eqb x y && sameList xs ys
-
-abbrev pub sameCells : List Cell → List Cell → Bool
-sameCells [] [] = true
-sameCells [] (y ∷ ys) = false
-sameCells (x ∷ xs) [] = false
-sameCells (x ∷ xs) (y ∷ ys) = eqb (x .addr) (y .addr) && (eqb (x .byte) (y .byte) && sameCells xs ys)
-
-abbrev pub sameRefusal : Refusal → Refusal → Bool
-sameRefusal f g = eqb (f .reason) (g .reason) && (eqb (f .ordinal) (g .ordinal) && eqb (f .place) (g .place))
-
-abbrev pub sameResult : Result → Result → Bool
-sameResult (fails f) (fails g) = sameRefusal f g
-sameResult (fails f) (passes h e r cs) = false
-sameResult (passes h e r cs) (fails f) = false
-sameResult (passes h e r cs) (passes h′ e′ r′ cs′) = sameList h h′ && (eqb e e′ && (eqb r r′ && sameCells cs cs′))
-
-abbrev pub isRising : ℕ → List Cell → Bool
-isRising lo [] = true
-isRising lo (c ∷ cs) = leb lo (c .addr) && isRising (suc (c .addr)) cs
-
-abbrev pub ordered : Result → Bool
-ordered (fails f) = true
-ordered (passes h e r cs) = isRising 0 cs
-
-abbrev pub passing : Case → Bool
-passing (writes cs h e t) = leb (length h) 252 && sameList (canonical cs h e) (codes t)
-passing (loads t addresses r) = allIn (asked (plan (codes t))) addresses && (sameResult (result [] (plan (codes t))) r && ordered r)
-
-abbrev pub allPass : List Case → Bool
-allPass [] = true
-allPass (c ∷ cs) = passing c && allPass cs

@@ -6,8 +6,7 @@ use lib.Dec.{ltb}
 use lib.ListN.{length, drop}
 use Rattle.window.specs.declared.Refusal.{Refusal}
 use Rattle.window.specs.Windows.{Window, row1, firstBadMark, row16}
-use Rattle.window.specs.Images.{image}
-use Rattle.window.specs.Cells.{cells}
+use Rattle.window.specs.Cells.{shown}
 use Rattle.window.specs.Plans.{Entry, refusal}
 use Rattle.srec.specs.declared.Written.{Written}
 use Rattle.srec.specs.Canonical.{canonical}
@@ -18,7 +17,7 @@ pub data WriteOutcome : Type 0 where
 
 -- the canonical text of what a window shows
 unfoldable pub textOf : Window → List ℕ → Entry → List ℕ
-textOf W header entry = canonical (cells (W .base) (image (W .memory) (W .marks))) header entry
+textOf W header entry = canonical (shown W) header entry
 
 -- row 15: the header has more than 252 bytes
 unfoldable pub row15 : List ℕ → Bool
@@ -37,7 +36,7 @@ write W header entry room =
     (cond (row16 (W .marks)) (declined (refusal 16 0 (firstBadMark (W .marks))))
     (cond (row17 text room) (declined (refusal 17 0 (length text))) (wrote text))))
 
--- 01 leaves free the length of a refused write, and the record number of an accepted one; here they are 0
+-- 01 leaves free the length of a refused write, and the refusal of an accepted one; here they are 0
 abbrev pub writeAnswer : WriteOutcome → Written
 writeAnswer (declined f) = record { refusal = f; length = 0 }
 writeAnswer (wrote text) = record { refusal = refusal 0 0 0; length = length text }

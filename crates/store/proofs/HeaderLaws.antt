@@ -23,7 +23,8 @@ use Rattle.reader.specs.declared.Record.the-variants.{Bad}
 use Rattle.reader.specs.Records.{asRecord}
 use Rattle.reader.proofs.FieldLaws.{Fields, Got}
 use Rattle.reader.proofs.KindLaws.{Known, known-kind}
-use Rattle.store.specs.Headers.{s0Data, firstHeader}
+use Rattle.srec.specs.Terms.{headerIn}
+use Rattle.store.specs.Headers.{firstHeader}
 
 -- ---- the header's array
 
@@ -48,28 +49,28 @@ sort-s0 c e = let t : Known c 2 = known-kind c S0 e in sym (t .type-is) ∙ ap t
     same : {x y : Kind} → some x ≡ some y → x ≡ y
     same q = cc
 
-no-header : (chars : List ℕ) → s0Data (read chars) ≡ [] → record { len = 0; bytes = zeros } ≡ headerOf (s0Data (read chars))
+no-header : (chars : List ℕ) → headerIn (read chars) [] ≡ [] → record { len = 0; bytes = zeros } ≡ headerOf (headerIn (read chars) [])
 no-header chars e = rw e refl
 
-pub header-bad : (chars : List ℕ) (place reason at : ℕ) → Bad reason at ≡ asRecord place (read chars) → record { len = 0; bytes = zeros } ≡ headerOf (s0Data (read chars))
+pub header-bad : (chars : List ℕ) (place reason at : ℕ) → Bad reason at ≡ asRecord place (read chars) → record { len = 0; bytes = zeros } ≡ headerOf (headerIn (read chars) [])
 header-bad chars place reason at q = no-header chars (go (read chars) q)
   where
-    go : (r : Read) → Bad reason at ≡ asRecord place r → s0Data r ≡ []
+    go : (r : Read) → Bad reason at ≡ asRecord place r → headerIn r [] ≡ []
     go (good k a ds) e = absurd (let z : _≡_ {A = ℕ} 0 1 = cc in omega arith)
     go (bad f) e = refl
 
-pub header-other : (chars : List ℕ) (kind a n : ℕ) → Got chars kind a n → (kind ≡ 48 → ⊥) → record { len = 0; bytes = zeros } ≡ headerOf (s0Data (read chars))
+pub header-other : (chars : List ℕ) (kind a n : ℕ) → Got chars kind a n → (kind ≡ 48 → ⊥) → record { len = 0; bytes = zeros } ≡ headerOf (headerIn (read chars) [])
 unfolding kindOf
-header-other chars kind a n r h = no-header chars (ap s0Data (r .is) ∙ go (r .k) (r .known-is))
+header-other chars kind a n r h = no-header chars (ap (λ (x : Read). headerIn x []) (r .is) ∙ go (r .k) (r .known-is))
   where
-    go : (k : Kind) → kindOf kind ≡ some k → s0Data (good k a (r .ds)) ≡ []
+    go : (k : Kind) → kindOf kind ≡ some k → headerIn (good k a (r .ds)) [] ≡ []
     go S0 e = absurd (h (sort-s0 kind e))
     go (Data w) e = refl
     go S5 e = refl
     go (End w) e = refl
 
 pub header-s0 : (chars : List ℕ) (kind a n : ℕ) → Got chars kind a n → kind ≡ 48 → (bs : List ℕ)
-    → bs ≡ bytes (take (8 + 2 * n - 8) (drop 8 chars)) → record { len = n; bytes = bs ++ drop n zeros } ≡ headerOf (s0Data (read chars))
+    → bs ≡ bytes (take (8 + 2 * n - 8) (drop 8 chars)) → record { len = n; bytes = bs ++ drop n zeros } ≡ headerOf (headerIn (read chars) [])
 unfolding kindOf
 header-s0 chars kind a n r c bs q =
     let k : r .k ≡ S0 = same (sym (r .known-is) ∙ ap kindOf c) in
@@ -78,7 +79,7 @@ header-s0 chars kind a n r c bs q =
     let e : 8 + 2 * n - 8 ≡ 2 * length (r .ds) = omega (arith, r .len) in
     let d : bs ≡ r .ds = q ∙ ap (λ (j : ℕ). bytes (take j (drop 8 chars))) e ∙ sym (f .data-is) in
     let z : drop n zeros ≡ replicate (252 - length (r .ds)) 0 = padding n (r .small .1) ∙ ap (λ (j : ℕ). replicate (252 - j) 0) (sym (r .len)) in
-    (λ i. record { len = sym (r .len) i; bytes = d i ++ z i }) ∙ ap (λ (x : Read). headerOf (s0Data x)) (sym is)
+    (λ i. record { len = sym (r .len) i; bytes = d i ++ z i }) ∙ ap (λ (x : Read). headerOf (headerIn x [])) (sym is)
   where
     same : {x y : Kind} → some x ≡ some y → x ≡ y
     same e = cc
@@ -87,18 +88,18 @@ header-s0 chars kind a n r c bs q =
 
 module _ (t : Summary) where
   first-read : (size at : ℕ) (ls : List Line) (r : Read)
-      → final (onward 1 at (λ u. scan size u ls) (λ u e. ended u e ls) (judged start r)) ≡ done t → t .header ≡ s0Data r
+      → final (onward 1 at (λ u. scan size u ls) (λ u e. ended u e ls) (judged start r)) ≡ done t → t .header ≡ headerIn r []
   unfolding judge row8
   first-read size at ls (bad f) q = absurd (no-stop t (located 1 at f) q)
   first-read size at ls (good S0 a ds) q = known-header t size ls (more start ds) (omega arith) q
   first-read size at ls (good (Data w) a ds) q =
-      by-test (row9 start w) (λ b. absurd (no-stop t (refusal 9 1 (at + 0)) (rw b at q)))
+      by-test (row9 0 w) (λ b. absurd (no-stop t (refusal 9 1 (at + 0)) (rw b at q)))
       (λ b. by-test (row11 w a (length ds)) (λ v. absurd (no-stop t (refusal 11 1 (at + 0)) (rw (b, v) at q)))
       (λ v. known-header t size ls (moreData start w (length ds)) (omega arith) (rw (b, v) at q)))
   first-read size at ls (good S5 a ds) q =
       by-test (row10 start a) (λ b. absurd (no-stop t (refusal 10 1 (at + 0)) (rw b at q))) (λ b. known-header t size ls (more start []) (omega arith) (rw b at q))
   first-read size at ls (good (End w) a ds) q =
-      by-test (row9 start w) (λ b. absurd (no-stop t (refusal 9 1 (at + 0)) (rw b at q))) (λ b. last ls (rw b at q))
+      by-test (row9 0 w) (λ b. absurd (no-stop t (refusal 9 1 (at + 0)) (rw b at q))) (λ b. last ls (rw b at q))
     where
       last : (ls : List Line) → final (ended (more start []) a ls) ≡ done t → t .header ≡ []
       last [] e = let k : record { header = []; entry = a; records = 0; cells = 0 } ≡ t = cc in ap (λ (x : Summary). x .header) (sym k)

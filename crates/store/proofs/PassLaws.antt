@@ -110,14 +110,14 @@ module _ (text : List ℕ) (base : ℕ) (m₀ : List ℕ) (acc : Accepts (placed
         by-test (row8 (g .s)) (λ t. absurd (not-refused (record { reason = 8; offset = 0 }) (ap (judged (g .s)) e ∙ rw t)))
         (λ t. record { placeable = tt; goes-on = on (more (g .s) ds) (ap (judged (g .s)) e ∙ rw t) })
     turned (good (Data w) a ds) e =
-        by-test (row9 (g .s) w) (λ t. absurd (not-refused (record { reason = 9; offset = 0 }) (ap (judged (g .s)) e ∙ rw t)))
+        by-test (row9 (g .s .firstWidth) w) (λ t. absurd (not-refused (record { reason = 9; offset = 0 }) (ap (judged (g .s)) e ∙ rw t)))
         (λ t. by-test (row11 w a (length ds)) (λ v. absurd (not-refused (record { reason = 11; offset = 0 }) (ap (judged (g .s)) e ∙ rw (t, v))))
         (λ v. put-on (moreData (g .s) w (length ds)) w a ds (ap (judged (g .s)) e ∙ rw (t, v))))
     turned (good S5 a ds) e =
         by-test (row10 (g .s) a) (λ t. absurd (not-refused (record { reason = 10; offset = 0 }) (ap (judged (g .s)) e ∙ rw t)))
         (λ t. record { placeable = tt; goes-on = on (more (g .s) (g .s .header)) (ap (judged (g .s)) e ∙ rw t) })
     turned (good (End w) a ds) e =
-        by-test (row9 (g .s) w) (λ t. absurd (not-refused (record { reason = 9; offset = 0 }) (ap (judged (g .s)) e ∙ rw t)))
+        by-test (row9 (g .s .firstWidth) w) (λ t. absurd (not-refused (record { reason = 9; offset = 0 }) (ap (judged (g .s)) e ∙ rw t)))
         (λ t. record { placeable = tt; goes-on = end-on (more (g .s) (g .s .header)) a (ap (judged (g .s)) e ∙ rw t) })
 
   pub storing-turn : (m : List ℕ) (at from to : ℕ) → Storing text base m₀ m at → (x : Next text at from to) → Turn m to (read (part text from to))

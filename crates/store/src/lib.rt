@@ -3,6 +3,7 @@ use reader::Found;
 use reader::Record;
 use srec::Header;
 ghost use mathlib.Core.Path.{_≡_};
+ghost use mathlib.Core.List.{[]};
 ghost use lib.ListN.{length};
 ghost use Rattle.hex.specs.Digits.{bytes};
 ghost use Rattle.hex.specs.Tables.{digitTable};
@@ -13,13 +14,15 @@ ghost use Rattle.srec.specs.Reading.{read};
 ghost use Rattle.srec.specs.Scan.{plan};
 ghost use Rattle.srec.specs.Load.{headerOf, memoryAfter};
 ghost use Rattle.store.specs.Stores.{storedBy, Placeable, Accepts};
-ghost use Rattle.store.specs.Headers.{s0Data, firstHeader};
+ghost use Rattle.srec.specs.Terms.{headerIn};
+ghost use Rattle.store.specs.Headers.{firstHeader};
 
 // Stores the data of a record that was checked: the cells from its address on, in the middle of memory, are lent.
 fn store_record(table: &[u8; 256], base: usize, memory: &mut [u8], chars: &[u8])
     requires { ⌜ (now table ≡ digitTable) × Placeable base (length (now memory)) (read (now chars)) ⌝ }
     ensures { λ _. ⌜ now (memory .exit) ≡ storedBy base (now (memory .entry)) (read (now (chars .entry))) ⌝ }
 {
+    // only S1 to S3 have data for cells
     let kind = chars[1];
     if kind < 49 {
         return;
@@ -59,7 +62,7 @@ pub fn store_all(table: &[u8; 256], text: &[u8], base: usize, memory: &mut [u8])
 // The header that a record holds: the data of an S0, or none.
 fn header_in(table: &[u8; 256], chars: &[u8]) -> Header
     requires { ⌜ now table ≡ digitTable ⌝ }
-    ensures { λ r. ⌜ r ≡ headerOf (s0Data (read (now (chars .entry)))) ⌝ }
+    ensures { λ r. ⌜ r ≡ headerOf (headerIn (read (now (chars .entry))) []) ⌝ }
 {
     let answer = reader::read_record(table, chars, 0);
     let Record::Good(kind, _, count) = answer else {
@@ -68,6 +71,7 @@ fn header_in(table: &[u8; 256], chars: &[u8]) -> Header
             bytes: [0u8; 252],
         };
     };
+    // S0
     if kind != 48 {
         return Header {
             len: 0,

@@ -37,9 +37,9 @@ marks-some [] = refl
 marks-some (d ∷ ds) = ap {B = List ℕ} (λ (r : List ℕ). 1 ∷ r) (marks-some ds)
 
 module _ (base : ℕ) (img : Image) (a : ℕ) (ds : List ℕ) where
-  row-is : claimRow base (marksOf img) a (length ds) ≡ cond (row12 base (length img) a (length ds)) 12 (cond (row13 base img a (length ds)) 13 0)
+  rows-12-13 : claimRow base (marksOf img) a (length ds) ≡ cond (row12 base (length img) a (length ds)) 12 (cond (row13 base img a (length ds)) 13 0)
   unfolding claimRow row13
-  row-is =
+  rows-12-13 =
       rw (length-map, marks-drop (a - base) img, marks-take (length ds) (drop (a - base) img), free-marks (take (length ds) (drop (a - base) img)))
       (ap (cond (row12 base (length img) a (length ds)) 12) (flip (anyGiven (take (length ds) (drop (a - base) img)))))
     where
@@ -51,14 +51,14 @@ module _ (base : ℕ) (img : Image) (a : ℕ) (ds : List ℕ) where
   pub claim-refused : (r n at : ℕ) (p : Plan) → r ≡ claimRow base (marksOf img) a (length ds) → (r ≡ 0 → ⊥)
       → placed base img (store n at a ds p) ≡ refused (refusal r n at)
   claim-refused r n at p e z =
-      by-test (row12 base (length img) a (length ds)) (λ t. rw (t, e ∙ row-is, t))
-      (λ t. by-test (row13 base img a (length ds)) (λ v. rw (t, v, e ∙ row-is, t, v)) (λ v. absurd (z (e ∙ row-is ∙ rw (t, v)))))
+      by-test (row12 base (length img) a (length ds)) (λ t. rw (t, e ∙ rows-12-13, t))
+      (λ t. by-test (row13 base img a (length ds)) (λ v. rw (t, v, e ∙ rows-12-13, t, v)) (λ v. absurd (z (e ∙ rows-12-13 ∙ rw (t, v)))))
 
   -- a claim that is granted passes rows 12 and 13, and marks the cells of the store
   pub claim-granted : 0 ≡ claimRow base (marksOf img) a (length ds) → (row12 base (length img) a (length ds) ≡ false) × (row13 base img a (length ds) ≡ false)
   claim-granted e =
-      by-test (row12 base (length img) a (length ds)) (λ t. absurd (let z : _≡_ {A = ℕ} 0 12 = e ∙ row-is ∙ rw t in omega arith))
-      (λ t. by-test (row13 base img a (length ds)) (λ v. absurd (let z : _≡_ {A = ℕ} 0 13 = e ∙ row-is ∙ rw (t, v) in omega arith)) (λ v. (t, v)))
+      by-test (row12 base (length img) a (length ds)) (λ t. absurd (let z : _≡_ {A = ℕ} 0 12 = e ∙ rows-12-13 ∙ rw t in omega arith))
+      (λ t. by-test (row13 base img a (length ds)) (λ v. absurd (let z : _≡_ {A = ℕ} 0 13 = e ∙ rows-12-13 ∙ rw (t, v) in omega arith)) (λ v. (t, v)))
 
   pub claim-marks : 0 ≡ claimRow base (marksOf img) a (length ds) → claimed base (marksOf img) a (length ds) ≡ marksOf (filled base img a ds)
   unfolding claimed filled over

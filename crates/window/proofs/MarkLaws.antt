@@ -1,4 +1,4 @@
--- Marks: a flag that is or-ed together, rows 12 and 13 by marks, and marks as a view of an image.
+-- Marks: a flag that is or-ed together, and rows 12 and 13 by marks. ClaimLaws has what that says of an image.
 use mathlib.Core.Path.{_≡_, refl, sym, ap, _∙_}
 use Prim.Native.Nat.{ℕ, suc, _+_, _-_, _≤_, _<_}
 use native.Mathlib.Nat.{add-zero}

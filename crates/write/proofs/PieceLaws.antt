@@ -10,7 +10,7 @@ use borrow.Author.Tests.{le-leb, lt-leb}
 use Rattle.hex.proofs.TestLaws.{by-test}
 use Rattle.window.specs.Windows.{Window, windowOf}
 use Rattle.window.specs.Images.{over}
-use Rattle.window.specs.Cells.{Cell, Run}
+use Rattle.window.specs.Cells.{Cell, Run, shown}
 use Rattle.window.specs.Plans.{Entry}
 use Rattle.srec.specs.Kinds.{Kind, typeOf, width}
 use Rattle.srec.specs.Kinds.Kind.{S0, Data, S5, End}
@@ -20,7 +20,7 @@ use Rattle.srec.specs.Write.{textOf}
 use Rattle.emit.specs.Records.{lineOf}
 use Rattle.emit.proofs.OverLaws.{over-none, over-more}
 use Rattle.emit.proofs.LineLaws.{line-text, length-line}
-use Rattle.measure.specs.Walks.{shown, gap}
+use Rattle.measure.specs.Walks.{gap}
 use Rattle.write.specs.Pieces.{dataText, countText}
 use Rattle.measure.proofs.RunWalkLaws.{cellsFrom, NextAt, from-next, from-zero, from-end, EndsAt, runs-at}
 

@@ -14,7 +14,7 @@ use Rattle.srec.specs.Canonical.{largest, widthFor}
 use Rattle.srec.specs.Write.{WriteOutcome, textOf, row15, row17, write, writeAnswer, outputAfter}
 use Rattle.srec.specs.Write.WriteOutcome.{declined, wrote}
 use Rattle.measure.specs.declared.Size.{Size}
-use Rattle.measure.specs.Walks.{shown}
+use Rattle.window.specs.Cells.{shown}
 use Rattle.measure.specs.Sizes.{sizeOf}
 use Rattle.write.specs.Pieces.{lengthFor}
 use Rattle.write.proofs.LengthLaws.{length-canonical}

@@ -12,7 +12,7 @@ ghost use Rattle.window.specs.Images.{over};
 ghost use Rattle.srec.specs.Canonical.{runs, largest, widthFor};
 ghost use Rattle.srec.specs.Write.{textOf, write, writeAnswer, outputAfter};
 ghost use Rattle.srec.specs.Write.WriteOutcome.{declined};
-ghost use Rattle.measure.specs.Walks.{shown};
+ghost use Rattle.window.specs.Cells.{shown};
 ghost use Rattle.write.specs.Pieces.{dataText, countText, lengthFor};
 
 // The length of the canonical text.
@@ -43,6 +43,7 @@ fn put_cells(
     ensures { λ r. ⌜ r ≡ start + length (dataText width (shown (windowOf base (now (memory .entry)) (now (marks .entry))))) ⌝ }
     ensures { λ _. ⌜ now (out .exit) ≡ over (now (out .entry)) start (dataText width (shown (windowOf base (now (memory .entry)) (now (marks .entry))))) ⌝ }
 {
+    // S1, S2 or S3
     let kind = (47 + width) as u8;
     let mut at = start;
     let mut from = measure::skip(marks, 0);
@@ -85,10 +86,12 @@ fn put_text(
     ensures { λ _. ⌜ now (out .exit) ≡ over (now (out .entry)) 0 (textOf (windowOf base (now (memory .entry)) (now (marks .entry))) (now (header .entry)) entry) ⌝ }
 {
     let none = [0u8; 0];
-    let cells = put_line(out, 0, 48, 2, 0, header);
-    let count = put_cells(out, cells, base, memory, marks, width);
-    let end = put_count(out, count, records);
-    put_line(out, end, (59 - width) as u8, width, entry, &none);
+    let behind_header = put_line(out, 0, 48, 2, 0, header);
+    let behind_data = put_cells(out, behind_header, base, memory, marks, width);
+    let behind_count = put_count(out, behind_data, records);
+    // S7, S8 or S9
+    let kind = (59 - width) as u8;
+    put_line(out, behind_count, kind, width, entry, &none);
 }
 
 // The answer of a refused write.

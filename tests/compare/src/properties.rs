@@ -37,12 +37,12 @@ pub fn reading_back(settings: &Settings) -> Result<String, String> {
                 return Err(format!("written again as {}", again.escape_ascii()));
             }
         }
-        smallest_width(content, &first)
+        narrowest_width(content, &first)
     })
 }
 
-/// Data records and terminator have the smallest width that holds all.
-fn smallest_width(content: &Content, text: &[u8]) -> Result<(), String> {
+/// Data records and terminator have the narrowest width that holds all.
+fn narrowest_width(content: &Content, text: &[u8]) -> Result<(), String> {
     let kinds: Vec<u8> = text
         .split(|&c| c == b'\n')
         .filter_map(|line| line.get(1).copied())

@@ -1,10 +1,10 @@
 -- `judge` meets its contract: each way out is one law of JudgeLaws.
 use mathlib.Core.Path.{_≡_, sym, _∙_}
 use native.Mathlib.Omega.{arith}
-use mathlib.Core.Bool.{true, false, not, _&&_}
-use lib.Dec.{eqb}
+use mathlib.Core.Bool.{true, false}
 use Rattle.srec.specs.Kinds.{kindOf, known}
 use Rattle.reader.specs.Records.{widthOr0}
+use Rattle.srec.specs.Scan.{row9}
 use Rattle.judge.proofs.JudgeLaws.{sort-of, row-8, passed-s0, row-10, passed-s5, row-9, other, finished, row-11, stored}
 use borrow.Author.Needs.{needs}
 use Rattle.judge.proofs.judge.Statement.{statement}
@@ -53,7 +53,7 @@ returns-5 c =
     let a = s .args in
     let t = sort-of (a .kind) (s .pre .0) in
     let w : widthOr0 (kindOf (a .kind)) ≡ c .before .before .width-of .result = sym (c .before .before .width-of .ensures .0) in
-    let d : (not (eqb (a .state .width) 0) && not (eqb (a .state .width) (widthOr0 (kindOf (a .kind))))) ≡ true = rw w (sym (c .before .differs .ensures) ∙ c .if5 .taken) in
+    let d : row9 (a .state .width) (widthOr0 (kindOf (a .kind))) ≡ true = rw w (sym (c .before .differs .ensures) ∙ c .if5 .taken) in
     row-9 (a .state) (known (kindOf (a .kind))) (a .address) (a .count) _ (other (a .state) (known (kindOf (a .kind))) (a .address) (a .count) (a .kind) t (c .before .before .before .before .if1 .left) (c .before .before .before .if3 .left)) d
 
 returns-6 : tie.Need-returns-6
@@ -62,7 +62,7 @@ returns-6 c =
     let a = s .args in
     let t = sort-of (a .kind) (s .pre .0) in
     let w : widthOr0 (kindOf (a .kind)) ≡ c .before .before .before .width-of .result = sym (c .before .before .before .width-of .ensures .0) in
-    let d : (not (eqb (a .state .width) 0) && not (eqb (a .state .width) (widthOr0 (kindOf (a .kind))))) ≡ false = rw w (sym (c .before .before .differs .ensures) ∙ c .before .if5 .left) in
+    let d : row9 (a .state .width) (widthOr0 (kindOf (a .kind))) ≡ false = rw w (sym (c .before .before .differs .ensures) ∙ c .before .if5 .left) in
     finished (a .state) (known (kindOf (a .kind))) (a .address) (a .count) _ (t .end-is (c .if6 .taken)) d
 
 add-if7 : tie.Need-add-if7
@@ -81,7 +81,7 @@ returns-7 c =
     let a = s .args in
     let t = sort-of (a .kind) (s .pre .0) in
     let w : widthOr0 (kindOf (a .kind)) ≡ c .before .before .before .before .before .width-of .result = sym (c .before .before .before .before .before .width-of .ensures .0) in
-    let d : (not (eqb (a .state .width) 0) && not (eqb (a .state .width) (widthOr0 (kindOf (a .kind))))) ≡ false = rw w (sym (c .before .before .before .before .differs .ensures) ∙ c .before .before .before .if5 .left) in
+    let d : row9 (a .state .width) (widthOr0 (kindOf (a .kind))) ≡ false = rw w (sym (c .before .before .before .before .differs .ensures) ∙ c .before .before .before .if5 .left) in
     row-11 (a .state) (known (kindOf (a .kind))) (a .address) (a .count) _ (t .data-is (c .before .before .before .before .before .before .before .if1 .left) (c .before .before .before .before .before .before .if3 .left) (c .before .before .if6 .left)) d (rw w (rw (c .before .limit .ensures) at (c .if7 .taken)))
 
 add-t13 : tie.Need-add-t13
@@ -96,7 +96,7 @@ returns-8 c =
     let a = s .args in
     let t = sort-of (a .kind) (s .pre .0) in
     let w : widthOr0 (kindOf (a .kind)) ≡ c .before .before .before .before .before .before .before .width-of .result = sym (c .before .before .before .before .before .before .before .width-of .ensures .0) in
-    let d : (not (eqb (a .state .width) 0) && not (eqb (a .state .width) (widthOr0 (kindOf (a .kind))))) ≡ false = rw w (sym (c .before .before .before .before .before .before .differs .ensures) ∙ c .before .before .before .before .before .if5 .left) in
+    let d : row9 (a .state .width) (widthOr0 (kindOf (a .kind))) ≡ false = rw w (sym (c .before .before .before .before .before .before .differs .ensures) ∙ c .before .before .before .before .before .if5 .left) in
     let k = t .data-is (c .before .before .before .before .before .before .before .before .before .if1 .left) (c .before .before .before .before .before .before .before .before .if3 .left) (c .before .before .before .before .if6 .left) in
     rw (← w) (stored (a .state) (known (kindOf (a .kind))) (a .address) (a .count) _ k d (rw w (rw (c .before .before .before .limit .ensures) at (c .before .before .if7 .left))))
 

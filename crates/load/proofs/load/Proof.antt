@@ -1,6 +1,7 @@
 -- `load` meets its contract: row 1, then a refusal of the check, or what the storing pass leaves.
-use mathlib.Core.Path.{_∙_}
+use mathlib.Core.Path.{sym, ap, _∙_}
 use lib.ListN.{length}
+use Rattle.window.specs.Plans.Outcome.{refused}
 use Rattle.load.proofs.LoadLaws.{answered-refused, cleared-is, cleared-again, row-1-lengths, row-1-reach, accepts, checked-refused, answered-accepted}
 use borrow.Author.Needs.{needs}
 use Rattle.load.proofs.load.Statement.{statement}
@@ -8,6 +9,9 @@ use Rattle.load.proofs.load.Tie as tie
 
 fill-requires : tie.Need-fill-requires
 fill-requires c κs = search needs
+
+refuse-requires : tie.Need-refuse-requires
+refuse-requires c κs = search needs
 
 refused-answer-requires : tie.Need-refused-answer-requires
 refused-answer-requires c κs = search needs
@@ -17,12 +21,15 @@ same-length c = search needs
 
 returns : tie.Need-returns
 returns c =
-    let a = c .before .before .before .before .before .before .before .before .before .args in
-    let f = c .before .before .before .before .fill in
-    answered-refused (a .memory .now) (a .marks .now) _ _ (row-1-lengths (a .base) (a .memory .now) (a .marks .now) (a .text .now) _ (f .ensures) (c .before .if1 .taken)) _ (c .refused-answer .ensures) _ (f .ensures)
+    let a = c .before .before .before .before .before .before .before .before .before .before .args in
+    let f = c .before .before .before .before .before .fill in
+    answered-refused (a .memory .now) (a .marks .now) _ _ (row-1-lengths (a .base) (a .memory .now) (a .marks .now) (a .text .now) _ (f .ensures) (c .before .before .if1 .taken) ∙ ap refused (sym (c .before .refuse .ensures))) _ (c .refused-answer .ensures) _ (f .ensures)
 
 sub-if2 : tie.Need-sub-if2
 sub-if2 c = search needs
+
+refuse-requires-2 : tie.Need-refuse-requires-2
+refuse-requires-2 c κs = search needs
 
 refused-answer-requires-2 : tie.Need-refused-answer-requires-2
 refused-answer-requires-2 c κs = search needs
@@ -32,9 +39,9 @@ same-length-2 c = search needs
 
 returns-2 : tie.Need-returns-2
 returns-2 c =
-    let a = c .before .before .before .before .before .before .before .before .before .before .args in
-    let f = c .before .before .before .before .before .fill in
-    answered-refused (a .memory .now) (a .marks .now) _ _ (row-1-reach (a .base) (a .memory .now) (a .marks .now) (a .text .now) _ (f .ensures) (c .before .before .if1 .left) (c .before .if2 .taken)) _ (c .refused-answer2 .ensures) _ (f .ensures)
+    let a = c .before .before .before .before .before .before .before .before .before .before .before .args in
+    let f = c .before .before .before .before .before .before .fill in
+    answered-refused (a .memory .now) (a .marks .now) _ _ (row-1-reach (a .base) (a .memory .now) (a .marks .now) (a .text .now) _ (f .ensures) (c .before .before .before .if1 .left) (c .before .before .if2 .taken) ∙ ap refused (sym (c .before .refuse2 .ensures))) _ (c .refused-answer2 .ensures) _ (f .ensures)
 
 digit-table-requires : tie.Need-digit-table-requires
 digit-table-requires c κs = search needs
@@ -97,10 +104,12 @@ load-spec =
     tie.close
     (tie.spec
     fill-requires
+    refuse-requires
     refused-answer-requires
     same-length
     returns
     sub-if2
+    refuse-requires-2
     refused-answer-requires-2
     same-length-2
     returns-2

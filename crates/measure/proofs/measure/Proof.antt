@@ -6,7 +6,8 @@ use mathlib.Core.List.{List}
 use lib.ListN.{length, drop}
 use borrow.Author.Needs.{needs}
 use Rattle.window.specs.Windows.{windowOf}
-use Rattle.measure.specs.Walks.{shown, gap}
+use Rattle.window.specs.Cells.{shown}
+use Rattle.measure.specs.Walks.{gap}
 use Rattle.measure.proofs.RunWalkLaws.{cellsFrom, next-bounds, run-bounds}
 use Rattle.measure.proofs.MeasureLaws.{Measured, measured-start, measured-more, measured-end}
 use Rattle.measure.proofs.measure.Statement.{statement}

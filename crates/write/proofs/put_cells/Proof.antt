@@ -4,7 +4,8 @@ use Prim.Native.Nat.{_+_, _-_, _≤_, _<_}
 use native.Mathlib.Omega.{arith}
 use lib.ListN.{length, drop}
 use Rattle.window.specs.Windows.{windowOf}
-use Rattle.measure.specs.Walks.{shown, gap}
+use Rattle.window.specs.Cells.{shown}
+use Rattle.measure.specs.Walks.{gap}
 use Rattle.write.specs.Pieces.{dataText}
 use Rattle.measure.proofs.RunWalkLaws.{cellsFrom, next-bounds, run-bounds, length-run}
 use Rattle.write.proofs.PieceLaws.{Pending, data-start, data-room, data-more, data-end}

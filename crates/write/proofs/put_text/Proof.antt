@@ -9,7 +9,7 @@ use Rattle.srec.specs.Canonical.{largest}
 use Rattle.srec.specs.Write.{textOf}
 use Rattle.srec.proofs.RunLaws.{width-is}
 use Rattle.emit.specs.Records.{lineOf}
-use Rattle.measure.specs.Walks.{shown}
+use Rattle.window.specs.Cells.{shown}
 use Rattle.write.specs.Pieces.{dataText, countText}
 use Rattle.write.proofs.PieceLaws.{text-pieces, Pending, pending-start, pending-room, pending-more, line-room, line-more, pending-end}
 use Rattle.write.proofs.put_text.Statement.{statement}
@@ -95,11 +95,11 @@ put-count-requires c κs =
     let p = c .before .before .before .put-cells in
     pending-room (whole s) (countText (s .args .records)) (last s ++ []) 0 (p .result) (s .args .out .now) (p .last .0) (fits s) (after-data (c .before .before .before))
 
-sub-put-line : tie.Need-sub-put-line
-sub-put-line c = omega (arith, narrow (c .before .before .before .before .before .before .before .before .before .before .before .before .before .before .before .before .before))
+sub-kind : tie.Need-sub-kind
+sub-kind c = omega (arith, narrow (c .before .before .before .before .before .before .before .before .before .before .before .before .before .before .before .before))
 
-cast-put-line : tie.Need-cast-put-line
-cast-put-line c = search needs
+cast-kind : tie.Need-cast-kind
+cast-kind c = search needs
 
 slice-aggregate-put-line : tie.Need-slice-aggregate-put-line
 slice-aggregate-put-line c = search needs
@@ -128,8 +128,8 @@ put-text-spec =
     put-line-requires
     put-cells-requires
     put-count-requires
-    sub-put-line
-    cast-put-line
+    sub-kind
+    cast-kind
     slice-aggregate-put-line
     put-line-requires-2
     same-length

@@ -12,7 +12,7 @@ use Rattle.srec.specs.Canonical.{widthFor}
 use Rattle.srec.specs.Write.{textOf}
 use Rattle.srec.proofs.RunLaws.{width-is}
 use Rattle.measure.specs.declared.Size.{Size}
-use Rattle.measure.specs.Walks.{shown}
+use Rattle.window.specs.Cells.{shown}
 use Rattle.measure.specs.Sizes.{sizeOf}
 use Rattle.write.proofs.WriteLaws.{need-is, row-1-lengths, row-1-reach, row-15, row-16, row-17, is-written, declines, accepts}
 use Rattle.write.proofs.write.Statement.{statement}

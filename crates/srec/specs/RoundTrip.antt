@@ -1,4 +1,4 @@
--- Demand 3: the customer's three statements on texts that are loaded and written again. Their proofs are in proofs/Demand3.antt.
+-- 01's demand 3: three statements on texts that are loaded and written again (FORMAT 8.2 to 8.4). Their proofs are in proofs/RoundTrip.antt.
 use mathlib.Core.Path.{_≡_}
 use Prim.Native.Nat.{ℕ}
 use mathlib.Core.List.{List}

@@ -1,4 +1,4 @@
--- Texts that are loaded and written again: the statements of specs/Demand3.antt hold.
+-- Texts that are loaded and written again: the statements of specs/RoundTrip.antt hold.
 use mathlib.Core.Path.{_≡_, refl, sym, ap, _∙_, subst}
 use Prim.Native.Nat.{ℕ, _+_, _-_, _^_}
 use native.Mathlib.Omega.{arith}
@@ -22,7 +22,7 @@ use Rattle.srec.specs.Canonical.{runs, canonical}
 use Rattle.srec.specs.Load.{load, loadAnswer}
 use Rattle.srec.specs.Write.WriteOutcome.{wrote}
 use Rattle.srec.specs.Terms.{SameContent, HoldsCells, loaded, Accepted, after, headerBytes, writtenAfter, Enough, Narrowest}
-use Rattle.srec.specs.Demand3.{Equal-content, LoadsBack, Written-loads-back, Narrowest-width}
+use Rattle.srec.specs.RoundTrip.{Equal-content, LoadsBack, Written-loads-back, Narrowest-width}
 use Rattle.srec.proofs.CanonicalLaws.{Gives}
 use Rattle.srec.proofs.RunLaws.{AllGood, good-runs, rising-runs, cells-ok}
 use Rattle.srec.proofs.LoadLaws.{Storable, Behind, load-inv, accepted-is, widthOf, summaryOf, canonical-gives, canonical-inj, writtenAfter-is, write-room}
