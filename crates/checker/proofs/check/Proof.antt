@@ -29,7 +29,9 @@ fits-at c = omega arith
 
 got-at : (c : tie.After-answer Inv-loop μ-loop)
     → Got (part (c .before .before .before .before .before .before .before .before .before .before .before .before .before .args .text .now) (c .before .before .before .before .before .before .found .given .0 .0) (c .before .before .before .before .before .before .found .given .0 .1 .0)) (c .answer .given .0 .0) (c .answer .given .0 .1 .0) (c .answer .given .0 .1 .1 .0)
-got-at c = got _ _ _ _ _ (sym (c .answer .given .1) ∙ c .before .before .read-record .ensures)
+got-at c =
+    let at-read-record = c .before .before in
+    got _ _ _ _ _ (sym (c .answer .given .1) ∙ at-read-record .read-record .ensures)
 
 start-requires : tie.Need-start-requires Inv-loop μ-loop
 start-requires c κs = search needs
@@ -53,7 +55,11 @@ same-length : tie.Need-same-length Inv-loop μ-loop
 same-length c = c .before .before .before .before .loop .inv .0
 
 returns : tie.Need-returns Inv-loop μ-loop
-returns c = rw (c .refuse .ensures) (row-14 _ _ _ _ _ _ (c .before .before .before .before .loop .inv .1) _ (sym (c .before .enum-told .given .1) ∙ c .before .before .before .next-record .ensures))
+returns c =
+    let at-next-record = c .before .before .before in
+    let at-loop = at-next-record .before in
+    rw (c .refuse .ensures) (row-14 _ _ _ _ _ _ (at-loop .loop .inv .1) _
+    (sym (c .before .enum-told .given .1) ∙ at-next-record .next-record .ensures))
 
 add-number : tie.Need-add-number Inv-loop μ-loop
 add-number c = let l = c .before .before .before .before .before .loop in record { fits = omega (arith, l .inv .1 .few .0, l .inv .1 .walk .inside) }
@@ -87,7 +93,10 @@ same-length-2 c = c .before .before .before .before .before .before .before .bef
 returns-2 : tie.Need-returns-2 Inv-loop μ-loop
 returns-2 c =
     let q = c .before .before .before in
-    rw (c .unread .ensures) (told-unread _ _ _ _ _ _ (c .before .before .before .before .before .before .before .before .before .before .loop .inv .1) _ _ (next-at (c .before .before .before .before .before .before .before)) _ _ _ _ (q .read-record .ensures) (c .before .enum-told2 .given .1))
+    let at-place = q .before .before .before .before in
+    let at-loop = at-place .before .before .before in
+    rw (c .unread .ensures) (told-unread _ _ _ _ _ _ (at-loop .loop .inv .1) _ _ (next-at at-place) _ _ _ _ (q .read-record .ensures)
+    (c .before .enum-told2 .given .1))
 
 judge-requires : tie.Need-judge-requires Inv-loop μ-loop
 judge-requires c κs =
@@ -127,8 +136,11 @@ ended-requires c κs =
     let j = c .before .before .before in
     let r = got-at (j .before .before) in
     let x = next-at (j .before .before .before .before .before .before .before .before) in
-    let g = j .before .before .before .before .before .before .before .before .before .before .before .loop .inv .1 in
-    (x .high, lt-of-le-of-lt (last-few _ _ _ _ _ _ g _ _ x _ _ _ r _ (j .judge .ensures) _ (c .before .step2 .given .1)) (omega (arith, x .high, fits-at (j .before .before .before .before .before .before .before .before))))
+    let g = j .before .before .before .before .before .before .before .before .before .before .before .loop .inv .1 in (
+      x .high,
+      lt-of-le-of-lt (last-few _ _ _ _ _ _ g _ _ x _ _ _ r _ (j .judge .ensures) _ (c .before .step2 .given .1))
+          (omega (arith, x .high, fits-at (j .before .before .before .before .before .before .before .before))),
+    )
 
 same-length-4 : tie.Need-same-length-4 Inv-loop μ-loop
 same-length-4 c = c .before .before .before .before .before .before .before .before .before .before .before .before .before .before .before .loop .inv .0
@@ -145,15 +157,18 @@ enum-known-step-3 : tie.Need-enum-known-step-3 Inv-loop μ-loop
 enum-known-step-3 c = search needs
 
 loop-less : tie.Need-loop-less Inv-loop μ-loop
-loop-less c = let x = next-at (c .before .before .before .before .before .before .before .before .before .before .before) in omega (arith, x .low, x .some-chars, x .high)
+loop-less c =
+    let at-place = c .before .before .before .before .before .before .before .before .before .before .before in
+    let x = next-at at-place in omega (arith, x .low, x .some-chars, x .high)
 
 loop-again : tie.Need-loop-again Inv-loop μ-loop
 loop-again c =
     let j = c .before .before .before in
+    let at-loop = j .before .before .before .before .before .before .before .before .before .before .before in
     let r = got-at (j .before .before) in
     let x = next-at (j .before .before .before .before .before .before .before .before) in
     let g = j .before .before .before .before .before .before .before .before .before .before .before .loop .inv .1 in
-    (c .before .before .before .before .before .before .before .before .before .before .before .before .before .before .loop .inv .0, going-pass _ _ _ _ _ _ g _ _ x _ _ _ r _ (j .judge .ensures) _ (c .before .step3 .given .1))
+    (at-loop .loop .inv .0, going-pass _ _ _ _ _ _ g _ _ x _ _ _ r _ (j .judge .ensures) _ (c .before .step3 .given .1))
 
 enum-known-step-4 : tie.Need-enum-known-step-4 Inv-loop μ-loop
 enum-known-step-4 c = search needs
@@ -168,26 +183,40 @@ refuse-requires-3 : tie.Need-refuse-requires-3 Inv-loop μ-loop
 refuse-requires-3 c κs = search needs
 
 same-length-5 : tie.Need-same-length-5 Inv-loop μ-loop
-same-length-5 c = c .before .before .before .before .claim .kept .0 ∙ c .before .before .before .before .before .before .before .before .before .before .before .before .before .before .before .before .before .before .before .before .loop .inv .0
+same-length-5 c =
+    let at-claim = c .before .before .before .before in
+    let at-loop = at-claim .before .before .before .before .before .before .before .before .before .before .before .before .before .before .before .before in
+    at-claim .claim .kept .0 ∙ at-loop .loop .inv .0
 
 returns-5 : tie.Need-returns-5 Inv-loop μ-loop
 returns-5 c =
-    let j = c .before .before .before .before .before .before .before .before .before in
+    let at-claim = c .before .before .before .before in
+    let at-step4 = at-claim .before .before .before in
+    let j = at-step4 .before .before in
     let r = got-at (j .before .before) in
     let x = next-at (j .before .before .before .before .before .before .before .before) in
     let g = j .before .before .before .before .before .before .before .before .before .before .before .loop .inv .1 in
-    rw (c .refuse3 .ensures) (told-claim _ _ _ _ _ _ g _ _ x _ _ _ r _ (j .judge .ensures) _ (c .before .before .before .before .before .before .before .step4 .given .1) _ (c .before .before .before .before .claim .ensures .0) _ (c .before .if1 .taken))
+    rw (c .refuse3 .ensures) (told-claim _ _ _ _ _ _ g _ _ x _ _ _ r _ (j .judge .ensures) _ (at-step4 .step4 .given .1) _
+    (at-claim .claim .ensures .0) _ (c .before .if1 .taken))
 
 loop-less-2 : tie.Need-loop-less-2 Inv-loop μ-loop
-loop-less-2 c = let x = next-at (c .before .before .before .before .before .before .before .before .before .before .before .before .before .before .before .before) in omega (arith, x .low, x .some-chars, x .high)
+loop-less-2 c =
+    let at-place = c .before .before .before .before .before .before .before .before .before .before .before .before .before .before .before .before in
+    let x = next-at at-place in omega (arith, x .low, x .some-chars, x .high)
 
 loop-again-2 : tie.Need-loop-again-2 Inv-loop μ-loop
 loop-again-2 c =
-    let j = c .before .before .before .before .before .before .before .before in
+    let at-claim = c .before .before .before in
+    let at-step4 = at-claim .before .before .before in
+    let j = at-step4 .before .before in
+    let at-loop = j .before .before .before .before .before .before .before .before .before .before .before in
     let r = got-at (j .before .before) in
     let x = next-at (j .before .before .before .before .before .before .before .before) in
-    let g = j .before .before .before .before .before .before .before .before .before .before .before .loop .inv .1 in
-    (c .before .before .before .claim .kept .0 ∙ c .before .before .before .before .before .before .before .before .before .before .before .before .before .before .before .before .before .before .before .loop .inv .0, going-put _ _ _ _ _ _ g _ _ x _ _ _ r _ (j .judge .ensures) _ (c .before .before .before .before .before .before .step4 .given .1) _ (c .before .before .before .claim .ensures .0) _ (c .if1 .left) (c .before .before .before .claim .ensures .1))
+    let g = j .before .before .before .before .before .before .before .before .before .before .before .loop .inv .1 in (
+      at-claim .claim .kept .0 ∙ at-loop .loop .inv .0,
+      going-put _ _ _ _ _ _ g _ _ x _ _ _ r _ (j .judge .ensures) _
+          (at-step4 .step4 .given .1) _ (at-claim .claim .ensures .0) _ (c .if1 .left) (at-claim .claim .ensures .1),
+    )
 
 pub check-spec : {M : Type 1} → statement M
 check-spec =

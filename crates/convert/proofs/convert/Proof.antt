@@ -36,8 +36,9 @@ array-share-prefix-bytes c =
 
 slice-aggregate-write : tie.Need-slice-aggregate-write
 slice-aggregate-write c =
-    let s = c .before .before .before .before .before .before .before .before .before .before .before .before .before .before .before .before .before .before .before in
-    let l = c .before .before .before .before .before .before .before .before .before .before .before .before .load in
+    let at-load = c .before .before .before .before .before .before .before .before .before .before .before .before in
+    let s = at-load .before .before .before .before .before .before .before in
+    let l = at-load .load in
     let W = windowOf (s .args .base) (s .args .memory .now) (s .args .marks .now) in
     sym (length-take-le _ _ (rw (l .ensures .0) (header-fits W (s .args .text .now))))
 
@@ -55,13 +56,18 @@ same-length-5 c = search needs
 
 returns-2 : tie.Need-returns-2
 returns-2 c =
-    let s = c .before .before .before .before .before .before .before .before .before .before .before .before .before .before .before .before .before .before .before .before .before .before .before .before .before .before in
-    let l = c .before .before .before .before .before .before .before .before .before .before .before .before .before .before .before .before .before .before .before .load in
+    let at-write = c .before .before .before .before .before in
+    let at-if1 = at-write .before .before .before .before .before .before .before in
+    let at-load = at-if1 .before .before .before .before .before .before .before in
+    let s = at-load .before .before .before .before .before .before .before in
+    let l = at-load .load in
     let W = windowOf (s .args .base) (s .args .memory .now) (s .args .marks .now) in
-    let a : Accepted W (s .args .text .now) = sym (ap (λ (x : Loaded). x .refusal .reason) (l .ensures .0)) ∙ c .before .before .before .before .before .before .before .before .before .before .before .before .if1 .left in
-    let w = c .before .before .before .before .before .write in
-    let is = written-is W (s .args .text .now) (length (s .args .out .now)) (l .result) _ _ (l .ensures .0) (l .ensures .1 .0) (l .ensures .1 .1) in
-    write-refused W (s .args .text .now) (s .args .out .now) a _ is _ _ (ap (λ (x : Written). x .refusal) (w .ensures .0)) (c .if2 .taken) (w .ensures .1)
+    let a : Accepted W (s .args .text .now) = sym (ap (λ (x : Loaded). x .refusal .reason) (l .ensures .0)) ∙ at-if1 .if1 .left in
+    let w = at-write .write in
+    let is = written-is W (s .args .text .now) (length (s .args .out .now)) (l .result) _ _ (l .ensures .0) (l .ensures .1 .0)
+    (l .ensures .1 .1) in
+    write-refused W (s .args .text .now) (s .args .out .now) a _ is _ _ (ap (λ (x : Written). x .refusal) (w .ensures .0)) (c .if2 .taken)
+    (w .ensures .1)
 
 same-length-6 : tie.Need-same-length-6
 same-length-6 c = search needs
@@ -74,13 +80,19 @@ same-length-8 c = search needs
 
 returns-3 : tie.Need-returns-3
 returns-3 c =
-    let s = c .before .before .before .before .before .before .before .before .before .before .before .before .before .before .before .before .before .before .before .before .before .before .before .before .before .before in
-    let l = c .before .before .before .before .before .before .before .before .before .before .before .before .before .before .before .before .before .before .before .load in
+    let at-write = c .before .before .before .before .before in
+    let at-if1 = at-write .before .before .before .before .before .before .before in
+    let at-load = at-if1 .before .before .before .before .before .before .before in
+    let s = at-load .before .before .before .before .before .before .before in
+    let l = at-load .load in
     let W = windowOf (s .args .base) (s .args .memory .now) (s .args .marks .now) in
-    let a : Accepted W (s .args .text .now) = sym (ap (λ (x : Loaded). x .refusal .reason) (l .ensures .0)) ∙ c .before .before .before .before .before .before .before .before .before .before .before .before .if1 .left in
-    let w = c .before .before .before .before .before .write in
-    let is = written-is W (s .args .text .now) (length (s .args .out .now)) (l .result) _ _ (l .ensures .0) (l .ensures .1 .0) (l .ensures .1 .1) in
-    text-written W (s .args .text .now) (s .args .out .now) a _ is _ _ (sym (ap (λ (x : Written). x .refusal .reason) (w .ensures .0)) ∙ c .if2 .left) (ap (λ (x : Written). x .length) (w .ensures .0)) (w .ensures .1)
+    let a : Accepted W (s .args .text .now) = sym (ap (λ (x : Loaded). x .refusal .reason) (l .ensures .0)) ∙ at-if1 .if1 .left in
+    let w = at-write .write in
+    let is = written-is W (s .args .text .now) (length (s .args .out .now)) (l .result) _ _ (l .ensures .0) (l .ensures .1 .0)
+    (l .ensures .1 .1) in
+    text-written W (s .args .text .now) (s .args .out .now) a _ is _ _
+    (sym (ap (λ (x : Written). x .refusal .reason) (w .ensures .0)) ∙ c .if2 .left) (ap (λ (x : Written). x .length) (w .ensures .0))
+    (w .ensures .1)
 
 pub convert-spec : {M : Type 1} → statement M
 convert-spec =

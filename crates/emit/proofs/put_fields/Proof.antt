@@ -48,14 +48,23 @@ put-pair-requires c κs = simp length-set (omega arith)
 after-count : (c : tie.After-put-pair) → length (c .put-pair .last .0) ≡ length (c .before .before .before .before .before .before .args .out .now)
 after-count c = simp length-set at (c .put-pair .kept .0)
 
-after-address : (c : tie.After-put-pairs) → length (c .put-pairs .last .0) ≡ length (c .before .before .before .before .before .before .before .before .before .before .args .out .now)
-after-address c = c .put-pairs .kept .0 ∙ after-count (c .before .before .before .before)
+after-address : (c : tie.After-put-pairs) → length (c .put-pairs .last .0) ≡ length
+    (c .before .before .before .before .before .before .before .before .before .before .args .out .now)
+after-address c =
+    let at-place = c .before .before .before .before in
+    c .put-pairs .kept .0 ∙ after-count at-place
 
-after-bytes : (c : tie.After-put-pairs2) → length (c .put-pairs2 .last .0) ≡ length (c .before .before .before .before .before .before .before .before .before .before .before .before .before .before .args .out .now)
-after-bytes c = c .put-pairs2 .kept .0 ∙ after-address (c .before .before .before .before)
+after-bytes : (c : tie.After-put-pairs2) → length (c .put-pairs2 .last .0) ≡ length
+    (c .before .before .before .before .before .before .before .before .before .before .before .before .before .before .args .out .now)
+after-bytes c =
+    let at-place = c .before .before .before .before in
+    c .put-pairs2 .kept .0 ∙ after-address at-place
 
-after-check : (c : tie.After-put-pair2) → length (c .put-pair2 .last .0) ≡ length (c .before .before .before .before .before .before .before .before .before .before .before .before .before .before .before .before .before .before .args .out .now)
-after-check c = c .put-pair2 .kept .0 ∙ after-bytes (c .before .before .before .before)
+after-check : (c : tie.After-put-pair2) → length (c .put-pair2 .last .0) ≡ length
+    (c .before .before .before .before .before .before .before .before .before .before .before .before .before .before .before .before .before .before .args .out .now)
+after-check c =
+    let at-place = c .before .before .before .before in
+    c .put-pair2 .kept .0 ∙ after-bytes at-place
 
 put-pairs-requires : tie.Need-put-pairs-requires
 put-pairs-requires c κs = omega (arith, after-count (c .before .before .before))
@@ -75,13 +84,18 @@ same-length c = simp length-set (after-check (c .before .before))
 returns : tie.Need-returns
 unfolding covered
 returns c =
-    let s = c .before .before .before .before .before .before .before .before .before .before .before .before .before .before .before .before .before .before .before .before in
+    let at-put-pair2 = c .before .before in
+    let at-put-pairs2 = at-put-pair2 .before .before .before .before in
+    let at-put-pairs = at-put-pairs2 .before .before .before .before in
+    let at-put-pair = at-put-pairs .before .before .before .before in
+    let at-check-byte = at-put-pair .before .before in
+    let s = at-check-byte .before .before .before .before in
     rw (
-      c .before .before .put-pair2 .ensures,
-      c .before .before .before .before .before .before .put-pairs2 .ensures,
-      c .before .before .before .before .before .before .before .before .before .before .put-pairs .ensures,
-      c .before .before .before .before .before .before .before .before .before .before .before .before .before .before .put-pair .ensures,
-      c .before .before .before .before .before .before .before .before .before .before .before .before .before .before .before .before .check-byte .ensures,
+      at-put-pair2 .put-pair2 .ensures,
+      at-put-pairs2 .put-pairs2 .ensures,
+      at-put-pairs .put-pairs .ensures,
+      at-put-pair .put-pair .ensures,
+      at-check-byte .check-byte .ensures,
     )
     (line-stored (s .args .out .now) (s .args .kind) (s .args .address .now) (s .args .bytes .now) (s .pre .1))
 

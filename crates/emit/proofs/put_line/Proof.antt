@@ -41,11 +41,14 @@ same-length c = search needs
 
 returns : tie.Need-returns
 returns c =
-    let a = c .before .before .before .before .before .before .args in
+    let at-put-record = c .before .before in
+    let at-args = at-put-record .before .before .before .before in
+    let a = at-args .args in
     let line = lineOf (a .kind) (a .width) (a .address) (a .bytes .now) in (
       refl,
-      rw (c .before .before .put-record .ensures)
-          (over-lent (a .out .now) (a .at) (7 + 2 * a .width + 2 * length (a .bytes .now)) line (length-line (a .kind) (a .width) (a .address) (a .bytes .now))),
+      rw (at-put-record .put-record .ensures)
+          (over-lent (a .out .now) (a .at) (7 + 2 * a .width + 2 * length (a .bytes .now)) line
+          (length-line (a .kind) (a .width) (a .address) (a .bytes .now))),
     )
 
 pub put-line-spec : {M : Type 1} → statement M

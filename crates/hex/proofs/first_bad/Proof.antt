@@ -30,7 +30,12 @@ is-digit-requires c κs = search needs
 returns : tie.Need-returns Inv-loop μ-loop
 returns c =
     let l = c .before .before .before .before in
-    omega (arith, l .loop .inv .1, bad-here (now (l .before .before .args .chars)) (l .loop .i) (search needs) (sym (c .before .is-digit .ensures) ∙ not-true _ (c .if1 .taken)))
+    omega (
+      arith,
+      l .loop .inv .1,
+      bad-here (now (l .before .before .args .chars)) (l .loop .i) (search needs)
+          (sym (c .before .is-digit .ensures) ∙ not-true _ (c .if1 .taken)),
+    )
 
 add-i : tie.Need-add-i Inv-loop μ-loop
 add-i c = search needs
@@ -40,8 +45,15 @@ loop-less c = search needs
 
 loop-again : tie.Need-loop-again Inv-loop μ-loop
 loop-again c =
-    let l = c .before .before .before .before in
-    (omega arith, omega (arith, l .loop .inv .1, bad-later (now (l .before .before .args .chars)) (l .loop .i) (search needs) (sym (c .before .is-digit .ensures) ∙ not-false _ (c .if1 .left))))
+    let l = c .before .before .before .before in (
+      omega arith,
+      omega (
+        arith,
+        l .loop .inv .1,
+        bad-later (now (l .before .before .args .chars)) (l .loop .i) (search needs)
+            (sym (c .before .is-digit .ensures) ∙ not-false _ (c .if1 .left)),
+      ),
+    )
 
 returns-2 : tie.Need-returns-2 Inv-loop μ-loop
 returns-2 c = omega (arith, c .before .loop .inv .1, bad-none (now (c .before .before .before .args .chars)) (c .before .loop .i) (search needs))

@@ -49,12 +49,16 @@ differs-requires c κs = search needs
 
 returns-5 : tie.Need-returns-5
 returns-5 c =
-    let s = c .before .before .before .before .before .before in
+    let at-width-of = c .before .before in
+    let at-if3 = at-width-of .before in
+    let at-if1 = at-if3 .before in
+    let s = at-if1 .before .before in
     let a = s .args in
     let t = sort-of (a .kind) (s .pre .0) in
-    let w : widthOr0 (kindOf (a .kind)) ≡ c .before .before .width-of .result = sym (c .before .before .width-of .ensures .0) in
+    let w : widthOr0 (kindOf (a .kind)) ≡ at-width-of .width-of .result = sym (at-width-of .width-of .ensures .0) in
     let d : row9 (a .state .width) (widthOr0 (kindOf (a .kind))) ≡ true = rw w (sym (c .before .differs .ensures) ∙ c .if5 .taken) in
-    row-9 (a .state) (known (kindOf (a .kind))) (a .address) (a .count) _ (other (a .state) (known (kindOf (a .kind))) (a .address) (a .count) (a .kind) t (c .before .before .before .before .if1 .left) (c .before .before .before .if3 .left)) d
+    row-9 (a .state) (known (kindOf (a .kind))) (a .address) (a .count) _
+    (other (a .state) (known (kindOf (a .kind))) (a .address) (a .count) (a .kind) t (at-if1 .if1 .left) (at-if3 .if3 .left)) d
 
 returns-6 : tie.Need-returns-6
 returns-6 c =
@@ -77,12 +81,19 @@ limit-requires c κs =
 
 returns-7 : tie.Need-returns-7
 returns-7 c =
-    let s = c .before .before .before .before .before .before .before .before .before in
+    let at-if6 = c .before .before in
+    let at-if5 = at-if6 .before in
+    let at-differs = at-if5 .before in
+    let at-width-of = at-differs .before in
+    let at-if3 = at-width-of .before in
+    let at-if1 = at-if3 .before in
+    let s = at-if1 .before .before in
     let a = s .args in
     let t = sort-of (a .kind) (s .pre .0) in
-    let w : widthOr0 (kindOf (a .kind)) ≡ c .before .before .before .before .before .width-of .result = sym (c .before .before .before .before .before .width-of .ensures .0) in
-    let d : row9 (a .state .width) (widthOr0 (kindOf (a .kind))) ≡ false = rw w (sym (c .before .before .before .before .differs .ensures) ∙ c .before .before .before .if5 .left) in
-    row-11 (a .state) (known (kindOf (a .kind))) (a .address) (a .count) _ (t .data-is (c .before .before .before .before .before .before .before .if1 .left) (c .before .before .before .before .before .before .if3 .left) (c .before .before .if6 .left)) d (rw w (rw (c .before .limit .ensures) at (c .if7 .taken)))
+    let w : widthOr0 (kindOf (a .kind)) ≡ at-width-of .width-of .result = sym (at-width-of .width-of .ensures .0) in
+    let d : row9 (a .state .width) (widthOr0 (kindOf (a .kind))) ≡ false = rw w (sym (at-differs .differs .ensures) ∙ at-if5 .if5 .left) in
+    row-11 (a .state) (known (kindOf (a .kind))) (a .address) (a .count) _
+    (t .data-is (at-if1 .if1 .left) (at-if3 .if3 .left) (at-if6 .if6 .left)) d (rw w (rw (c .before .limit .ensures) at (c .if7 .taken)))
 
 add-t13 : tie.Need-add-t13
 add-t13 c = search needs
@@ -92,13 +103,22 @@ add-t14 c = search needs
 
 returns-8 : tie.Need-returns-8
 returns-8 c =
-    let s = c .before .before .before .before .before .before .before .before .before .before .before in
+    let at-if7 = c .before .before in
+    let at-limit = at-if7 .before in
+    let at-if6 = at-limit .before in
+    let at-if5 = at-if6 .before in
+    let at-differs = at-if5 .before in
+    let at-width-of = at-differs .before in
+    let at-if3 = at-width-of .before in
+    let at-if1 = at-if3 .before in
+    let s = at-if1 .before .before in
     let a = s .args in
     let t = sort-of (a .kind) (s .pre .0) in
-    let w : widthOr0 (kindOf (a .kind)) ≡ c .before .before .before .before .before .before .before .width-of .result = sym (c .before .before .before .before .before .before .before .width-of .ensures .0) in
-    let d : row9 (a .state .width) (widthOr0 (kindOf (a .kind))) ≡ false = rw w (sym (c .before .before .before .before .before .before .differs .ensures) ∙ c .before .before .before .before .before .if5 .left) in
-    let k = t .data-is (c .before .before .before .before .before .before .before .before .before .if1 .left) (c .before .before .before .before .before .before .before .before .if3 .left) (c .before .before .before .before .if6 .left) in
-    rw (← w) (stored (a .state) (known (kindOf (a .kind))) (a .address) (a .count) _ k d (rw w (rw (c .before .before .before .limit .ensures) at (c .before .before .if7 .left))))
+    let w : widthOr0 (kindOf (a .kind)) ≡ at-width-of .width-of .result = sym (at-width-of .width-of .ensures .0) in
+    let d : row9 (a .state .width) (widthOr0 (kindOf (a .kind))) ≡ false = rw w (sym (at-differs .differs .ensures) ∙ at-if5 .if5 .left) in
+    let k = t .data-is (at-if1 .if1 .left) (at-if3 .if3 .left) (at-if6 .if6 .left) in
+    rw (← w) (stored (a .state) (known (kindOf (a .kind))) (a .address) (a .count) _ k d
+    (rw w (rw (at-limit .limit .ensures) at (at-if7 .if7 .left))))
 
 pub judge-spec : {M : Type 1} → statement M
 judge-spec =

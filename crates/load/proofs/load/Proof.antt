@@ -21,9 +21,14 @@ same-length c = search needs
 
 returns : tie.Need-returns
 returns c =
-    let a = c .before .before .before .before .before .before .before .before .before .before .args in
-    let f = c .before .before .before .before .before .fill in
-    answered-refused (a .memory .now) (a .marks .now) _ _ (row-1-lengths (a .base) (a .memory .now) (a .marks .now) (a .text .now) _ (f .ensures) (c .before .before .if1 .taken) ∙ ap refused (sym (c .before .refuse .ensures))) _ (c .refused-answer .ensures) _ (f .ensures)
+    let at-if1 = c .before .before in
+    let at-fill = at-if1 .before .before .before in
+    let at-args = at-fill .before .before .before .before .before in
+    let a = at-args .args in
+    let f = at-fill .fill in
+    answered-refused (a .memory .now) (a .marks .now) _ _
+    (row-1-lengths (a .base) (a .memory .now) (a .marks .now) (a .text .now) _ (f .ensures) (at-if1 .if1 .taken) ∙ ap refused
+    (sym (c .before .refuse .ensures))) _ (c .refused-answer .ensures) _ (f .ensures)
 
 sub-if2 : tie.Need-sub-if2
 sub-if2 c = search needs
@@ -39,17 +44,26 @@ same-length-2 c = search needs
 
 returns-2 : tie.Need-returns-2
 returns-2 c =
-    let a = c .before .before .before .before .before .before .before .before .before .before .before .args in
-    let f = c .before .before .before .before .before .before .fill in
-    answered-refused (a .memory .now) (a .marks .now) _ _ (row-1-reach (a .base) (a .memory .now) (a .marks .now) (a .text .now) _ (f .ensures) (c .before .before .before .if1 .left) (c .before .before .if2 .taken) ∙ ap refused (sym (c .before .refuse2 .ensures))) _ (c .refused-answer2 .ensures) _ (f .ensures)
+    let at-if2 = c .before .before in
+    let at-if1 = at-if2 .before in
+    let at-fill = at-if1 .before .before .before in
+    let at-args = at-fill .before .before .before .before .before in
+    let a = at-args .args in
+    let f = at-fill .fill in
+    answered-refused (a .memory .now) (a .marks .now) _ _
+    (row-1-reach (a .base) (a .memory .now) (a .marks .now) (a .text .now) _ (f .ensures) (at-if1 .if1 .left) (at-if2 .if2 .taken) ∙ ap
+    refused (sym (c .before .refuse2 .ensures))) _ (c .refused-answer2 .ensures) _ (f .ensures)
 
 digit-table-requires : tie.Need-digit-table-requires
 digit-table-requires c κs = search needs
 
 check-requires : tie.Need-check-requires
 check-requires c κs =
-    let f = c .before .before .before .before .before .before .before .fill in
-    (c .before .before .digit-table .ensures, cleared-is (length (c .before .before .before .before .before .before .before .before .before .before .before .before .args .marks .now)) _ (f .ensures))
+    let at-digit-table = c .before .before in
+    let at-fill = at-digit-table .before .before .before .before .before in
+    let at-args = at-fill .before .before .before .before .before in
+    let f = at-fill .fill in
+    (at-digit-table .digit-table .ensures, cleared-is (length (at-args .args .marks .now)) _ (f .ensures))
 
 enum-known-checked : tie.Need-enum-known-checked
 enum-known-checked c = search needs
@@ -65,10 +79,20 @@ enum-known-checked-2 c = search needs
 
 store-all-requires : tie.Need-store-all-requires
 store-all-requires c κs =
-    let s = c .before .before .before .before .before .before .before .before .before .before .before .before .before .before .before .before .before .before .before .before in
+    let at-checked2 = c .before .before .before in
+    let at-check = at-checked2 .before .before .before .before in
+    let at-digit-table = at-check .before .before .before in
+    let at-if2 = at-digit-table .before in
+    let at-if1 = at-if2 .before in
+    let at-fill = at-if1 .before .before .before in
+    let s = at-fill .before .before .before .before .before in
     let a = s .args in
-    let f = c .before .before .before .before .before .before .before .before .before .before .before .before .before .before .before .fill in
-    (c .before .before .before .before .before .before .before .before .before .before .digit-table .ensures, accepts (a .base) (a .memory .now) (a .marks .now) (a .text .now) _ (f .ensures) (c .before .before .before .before .before .before .before .before .before .before .before .before .if1 .left) (c .before .before .before .before .before .before .before .before .before .before .before .if2 .left) (s .fits .base .fits) _ _ _ _ (rw (c .before .before .before .checked2 .given .1) at (c .before .before .before .before .before .before .before .check .ensures)))
+    let f = at-fill .fill in (
+      at-digit-table .digit-table .ensures,
+      accepts (a .base) (a .memory .now) (a .marks .now) (a .text .now) _ (f .ensures)
+          (at-if1 .if1 .left) (at-if2 .if2 .left) (s .fits .base .fits) _ _ _ _
+          (rw (at-checked2 .checked2 .given .1) at (at-check .check .ensures)),
+    )
 
 header-of-requires : tie.Need-header-of-requires
 header-of-requires c κs = search needs
@@ -81,23 +105,44 @@ same-length-3 c = search needs
 
 returns-3 : tie.Need-returns-3
 returns-3 c =
-    let s = c .before .before .before .before .before .before .before .before .before .before .before .before .before .before .before .before .before .before .before .before .before .before .before in
+    let at-fill2 = c .before .before .before in
+    let at-checked = at-fill2 .before .before .before in
+    let at-check = at-checked .before .before .before .before in
+    let at-if2 = at-check .before .before .before .before in
+    let at-if1 = at-if2 .before in
+    let at-fill = at-if1 .before .before .before in
+    let s = at-fill .before .before .before .before .before in
     let a = s .args in
-    let f = c .before .before .before .before .before .before .before .before .before .before .before .before .before .before .before .before .before .before .fill in
-    answered-refused (a .memory .now) (a .marks .now) _ _ (checked-refused (a .base) (a .memory .now) (a .marks .now) (a .text .now) _ (f .ensures) (c .before .before .before .before .before .before .before .before .before .before .before .before .before .before .before .if1 .left) (c .before .before .before .before .before .before .before .before .before .before .before .before .before .before .if2 .left) (s .fits .base .fits) _ _ (rw (c .before .before .before .before .before .before .checked .given .1) at (c .before .before .before .before .before .before .before .before .before .before .check .ensures))) _ (c .refused-answer3 .ensures) _ (cleared-again (length (a .marks .now)) _ (c .before .before .before .before .before .before .before .before .before .before .check .last .1 .1 .1 .0) _ (f .ensures) (c .before .before .before .before .before .before .before .before .before .before .check .kept .1 .1 .1 .0) (c .before .before .before .fill2 .ensures))
+    let f = at-fill .fill in
+    answered-refused (a .memory .now) (a .marks .now) _ _
+    (checked-refused (a .base) (a .memory .now) (a .marks .now) (a .text .now) _ (f .ensures) (at-if1 .if1 .left) (at-if2 .if2 .left)
+    (s .fits .base .fits) _ _ (rw (at-checked .checked .given .1) at (at-check .check .ensures))) _ (c .refused-answer3 .ensures) _
+    (cleared-again (length (a .marks .now)) _ (at-check .check .last .1 .1 .1 .0) _ (f .ensures) (at-check .check .kept .1 .1 .1 .0)
+    (at-fill2 .fill2 .ensures))
 
 same-length-4 : tie.Need-same-length-4
 same-length-4 c = search needs
 
 same-length-5 : tie.Need-same-length-5
-same-length-5 c = c .before .before .before .before .before .before .before .before .before .before .before .before .before .check .kept .1 .1 .1 .0 ∙ c .before .before .before .before .before .before .before .before .before .before .before .before .before .before .before .before .before .before .before .before .before .fill .kept .0
+same-length-5 c =
+    let at-check = c .before .before .before .before .before .before .before .before .before .before .before .before .before in
+    let at-fill = at-check .before .before .before .before .before .before .before .before in
+    at-check .check .kept .1 .1 .1 .0 ∙ at-fill .fill .kept .0
 
 returns-4 : tie.Need-returns-4
 returns-4 c =
-    let s = c .before .before .before .before .before .before .before .before .before .before .before .before .before .before .before .before .before .before .before .before .before .before .before .before .before .before in
+    let at-store-all = c .before .before .before .before .before in
+    let at-checked2 = at-store-all .before .before .before .before in
+    let at-check = at-checked2 .before .before .before .before in
+    let at-if2 = at-check .before .before .before .before in
+    let at-if1 = at-if2 .before in
+    let at-fill = at-if1 .before .before .before in
+    let s = at-fill .before .before .before .before .before in
     let a = s .args in
-    let f = c .before .before .before .before .before .before .before .before .before .before .before .before .before .before .before .before .before .before .before .before .before .fill in
-    rw (c .accepted-answer .ensures) (answered-accepted (a .base) (a .memory .now) (a .marks .now) (a .text .now) _ (f .ensures) (c .before .before .before .before .before .before .before .before .before .before .before .before .before .before .before .before .before .before .if1 .left) (c .before .before .before .before .before .before .before .before .before .before .before .before .before .before .before .before .before .if2 .left) (s .fits .base .fits) _ _ _ _ _ _ (rw (c .before .before .before .before .before .before .before .before .before .checked2 .given .1) at (c .before .before .before .before .before .before .before .before .before .before .before .before .before .check .ensures)) (c .before .before .before .before .before .store-all .ensures) (c .before .header-of .ensures))
+    let f = at-fill .fill in
+    rw (c .accepted-answer .ensures) (answered-accepted (a .base) (a .memory .now) (a .marks .now) (a .text .now) _ (f .ensures)
+    (at-if1 .if1 .left) (at-if2 .if2 .left) (s .fits .base .fits) _ _ _ _ _ _
+    (rw (at-checked2 .checked2 .given .1) at (at-check .check .ensures)) (at-store-all .store-all .ensures) (c .before .header-of .ensures))
 
 pub load-spec : {M : Type 1} → statement M
 load-spec =

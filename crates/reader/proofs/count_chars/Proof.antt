@@ -27,8 +27,15 @@ is-end-requires c κs = search needs
 
 returns : tie.Need-returns Inv-loop μ-loop
 returns c =
-    let l = c .before .before .before .before in
-    (omega (arith, l .loop .inv .1, front-stop (l .before .before .args .text .now) (l .loop .i) (search needs) (sym (c .before .is-end .ensures) ∙ c .if1 .taken)), omega arith)
+    let l = c .before .before .before .before in (
+      omega (
+        arith,
+        l .loop .inv .1,
+        front-stop (l .before .before .args .text .now) (l .loop .i) (search needs)
+            (sym (c .before .is-end .ensures) ∙ c .if1 .taken),
+      ),
+      omega arith,
+    )
 
 add-i : tie.Need-add-i Inv-loop μ-loop
 add-i c = search needs
@@ -38,8 +45,15 @@ loop-less c = search needs
 
 loop-again : tie.Need-loop-again Inv-loop μ-loop
 loop-again c =
-    let l = c .before .before .before .before in
-    (omega arith, omega (arith, l .loop .inv .1, front-more (l .before .before .args .text .now) (l .loop .i) (search needs) (sym (c .before .is-end .ensures) ∙ c .if1 .left)))
+    let l = c .before .before .before .before in (
+      omega arith,
+      omega (
+        arith,
+        l .loop .inv .1,
+        front-more (l .before .before .args .text .now) (l .loop .i) (search needs)
+            (sym (c .before .is-end .ensures) ∙ c .if1 .left),
+      ),
+    )
 
 returns-2 : tie.Need-returns-2 Inv-loop μ-loop
 returns-2 c = (omega (arith, c .before .loop .inv .1, front-none (c .before .before .before .args .text .now) (c .before .loop .i) (search needs)), omega arith)

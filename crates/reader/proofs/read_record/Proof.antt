@@ -29,24 +29,31 @@ head-at c = record {
   type-known = known-type _ _ (c .before .width-of .ensures .0) (c .if4 .left);
 }
 
-bad-at : (c : tie.After-first-bad) → c .first-bad .result ≡ firstBad (drop 2 (c .before .before .before .before .before .before .before .before .before .before .args .chars .now))
-bad-at c = c .first-bad .ensures ∙ ap firstBad (rest 2 (c .before .before .before .before .before .before .before .before .before .before .args .chars .now))
+bad-at : (c : tie.After-first-bad) → c .first-bad .result ≡ firstBad
+    (drop 2 (c .before .before .before .before .before .before .before .before .before .before .args .chars .now))
+bad-at c =
+    let at-args = c .before .before .before .before .before .before .before .before .before .before in
+    c .first-bad .ensures ∙ ap firstBad (rest 2 (at-args .args .chars .now))
 
 digits-at : (c : tie.Else5) → length (drop 2 (c .before .before .before .before .before .before .before .before .before .before .before .args .chars .now)) ≤ firstBad (drop 2 (c .before .before .before .before .before .before .before .before .before .before .before .args .chars .now))
-digits-at c = omega (arith, c .if5 .left, bad-at (c .before), length-drop 2 (c .before .before .before .before .before .before .before .before .before .before .before .args .chars .now))
+digits-at c =
+    let at-args = c .before .before .before .before .before .before .before .before .before .before .before in
+    omega (arith, c .if5 .left, bad-at (c .before), length-drop 2 (at-args .args .chars .now))
 
 sized-at : (c : tie.Else6) → Sized (c .before .before .before .before .before .before .before .before .before .before .before .before .before .before .before .before .args .chars .now) (c .before .before .before .before .before .before .before .before .before .width-of .result) (c .before .before .byte-of .result)
 sized-at c =
-    let s = c .before .before .before .before .before .before .before .before .before .before .before .before .before .before .before .before in
-    let e = c .before .before .before .before .before in
-    let h : Head (s .args .chars .now) (c .before .before .before .before .before .before .before .before .before .width-of .result) = head-at (e .before .before .before) in
-    let six : row6 (known (kindOf (getD (s .args .chars .now) 1 0))) (length (s .args .chars .now)) (c .before .before .byte-of .result) ≡ false
+    let at-byte-of = c .before .before in
+    let e = at-byte-of .before .before .before in
+    let at-width-of = e .before .before .before .before in
+    let s = at-width-of .before .before .before .before .before .before .before in
+    let h : Head (s .args .chars .now) (at-width-of .width-of .result) = head-at (e .before .before .before) in
+    let six : row6 (known (kindOf (getD (s .args .chars .now) 1 0))) (length (s .args .chars .now)) (at-byte-of .byte-of .result) ≡ false
     = not-true _ (sym (c .before .fits2 .ensures) ∙ not-false _ (c .if6 .left)) in
-    let k = row-6-inv _ (c .before .before .before .before .before .before .before .before .before .width-of .result) (length (s .args .chars .now)) (c .before .before .byte-of .result) (h .type-known) six in
+    let k = row-6-inv _ (at-width-of .width-of .result) (length (s .args .chars .now)) (at-byte-of .byte-of .result) (h .type-known) six in
     record {
       head = h;
       digits = digits-at e;
-      count-is = c .before .before .byte-of .ensures ∙ count-at (s .args .chars .now) (h .four);
+      count-is = at-byte-of .byte-of .ensures ∙ count-at (s .args .chars .now) (h .four);
       six = six;
       long = k .0;
       least = k .1;
@@ -71,7 +78,10 @@ width-of-requires : tie.Need-width-of-requires
 width-of-requires c κs = search needs
 
 returns-4 : tie.Need-returns-4
-returns-4 c = at-place _ (row-4-type _ (omega arith) (omega arith) (c .before .before .before .if3 .left) (unknown-type _ _ (c .before .width-of .ensures .0) (c .if4 .taken)))
+returns-4 c =
+    let at-if3 = c .before .before .before in
+    at-place _ (row-4-type _ (omega arith) (omega arith) (at-if3 .if3 .left)
+    (unknown-type _ _ (c .before .width-of .ensures .0) (c .if4 .taken)))
 
 sub-first-bad : tie.Need-sub-first-bad
 sub-first-bad c = search needs
@@ -96,11 +106,14 @@ add-t21 c = search needs
 
 returns-5 : tie.Need-returns-5
 returns-5 c =
-    let l = c .before .before .before .before .before .before .before .before .before .before .before .args .chars .now in
-    let w = c .before .before .before .before .width-of .result in
+    let at-place = c .before .before .before in
+    let at-width-of = at-place .before in
+    let at-args = at-width-of .before .before .before .before .before .before .before in
+    let l = at-args .args .chars .now in
+    let w = at-width-of .width-of .result in
     let e = bad-at (c .before) in
-    ap (λ (n : ℕ). Bad 5 (c .before .before .before .before .before .before .before .before .before .before .before .args .place + (2 + n))) e
-    ∙ ap (asRecord (c .before .before .before .before .before .before .before .before .before .before .before .args .place)) (row-5 l w (head-at (c .before .before .before)) (omega (arith, c .if5 .taken, e, length-drop 2 l)))
+    ap (λ (n : ℕ). Bad 5 (at-args .args .place + (2 + n))) e
+    ∙ ap (asRecord (at-args .args .place)) (row-5 l w (head-at at-place) (omega (arith, c .if5 .taken, e, length-drop 2 l)))
 
 shared-slice-read-byte-of : tie.Need-shared-slice-read-byte-of
 shared-slice-read-byte-of c = search needs
@@ -121,13 +134,18 @@ fits-requires c κs =
 
 returns-6 : tie.Need-returns-6
 returns-6 c =
-    let l = c .before .before .before .before .before .before .before .before .before .before .before .before .before .before .before .before .args .chars .now in
-    let w = c .before .before .before .before .before .before .before .before .before .width-of .result in
-    let h = head-at (c .before .before .before .before .before .before .before .before) in
-    let n : c .before .before .byte-of .result ≡ count l = c .before .before .byte-of .ensures ∙ count-at l (h .four) in
-    let six : row6 (known (kindOf (getD l 1 0))) (length l) (c .before .before .byte-of .result) ≡ true
+    let at-byte-of = c .before .before in
+    let at-place-2 = at-byte-of .before .before .before in
+    let at-place-3 = at-place-2 .before .before .before in
+    let at-width-of = at-place-3 .before in
+    let at-args = at-width-of .before .before .before .before .before .before .before in
+    let l = at-args .args .chars .now in
+    let w = at-width-of .width-of .result in
+    let h = head-at at-place-3 in
+    let n : at-byte-of .byte-of .result ≡ count l = at-byte-of .byte-of .ensures ∙ count-at l (h .four) in
+    let six : row6 (known (kindOf (getD l 1 0))) (length l) (at-byte-of .byte-of .result) ≡ true
     = not-false _ (sym (c .before .fits2 .ensures) ∙ not-true _ (c .if6 .taken)) in
-    at-place _ (row-6 l w h (digits-at (c .before .before .before .before .before)) (rw n at six))
+    at-place _ (row-6 l w h (digits-at at-place-2) (rw n at six))
 
 mul-end : tie.Need-mul-end
 mul-end c = search needs
@@ -164,9 +182,15 @@ sub-if7 c = search needs
 
 returns-7 : tie.Need-returns-7
 returns-7 c =
-    let l = c .before .before .before .before .before .before .before .before .before .before .before .before .before .before .before .before .before .before .before .before .before .before .args .chars .now in
-    let s : c .before .sum-pairs .result ≡ sum (bytes (take (2 * c .before .before .before .before .before .before .before .before .byte-of .result) (drop 2 l))) % 256 = rw add-sub-cancel-left at (c .before .sum-pairs .ensures) in
-    at-place _ (row-7 l _ _ (sized-at (c .before .before .before .before .before .before)) (λ e. c .if7 .taken (c .before .before .before .byte-of2 .ensures ∙ e ∙ ap (λ (n : ℕ). 255 - n) (sym s))))
+    let at-byte-of2 = c .before .before .before in
+    let at-place-2 = at-byte-of2 .before .before .before in
+    let at-byte-of = at-place-2 .before .before in
+    let at-args = at-byte-of .before .before .before .before .before .before .before .before .before .before .before .before .before .before in
+    let l = at-args .args .chars .now in
+    let s : c .before .sum-pairs .result ≡ sum (bytes (take (2 * at-byte-of .byte-of .result) (drop 2 l))) % 256
+    = rw add-sub-cancel-left at (c .before .sum-pairs .ensures) in
+    at-place _ (row-7 l _ _ (sized-at at-place-2) (λ e. c .if7 .taken
+    (at-byte-of2 .byte-of2 .ensures ∙ e ∙ ap (λ (n : ℕ). 255 - n) (sym s))))
 
 mul-data : tie.Need-mul-data
 mul-data c = search needs
@@ -181,7 +205,9 @@ part-number-of-start : tie.Need-part-number-of-start
 part-number-of-start c = search needs
 
 part-number-of-end : tie.Need-part-number-of-end
-part-number-of-end c = omega (arith, sized-at (c .before .before .before .before .before .before) .long, sized-at (c .before .before .before .before .before .before) .least)
+part-number-of-end c =
+    let at-place = c .before .before .before .before .before .before in
+    omega (arith, sized-at at-place .long, sized-at at-place .least)
 
 number-of-requires : tie.Need-number-of-requires
 number-of-requires c κs = search needs
@@ -194,13 +220,22 @@ sub-t31 c = sized-at (c .before .before .before .before .before .before .before 
 
 returns-8 : tie.Need-returns-8
 returns-8 c =
-    let l = c .before .before .before .before .before .before .before .before .before .before .before .before .before .before .before .before .before .before .before .before .before .before .before .before .args .chars .now in
-    let n = c .before .before .before .before .before .before .before .before .before .before .byte-of .result in
-    let w = c .before .before .before .before .before .before .before .before .before .before .before .before .before .before .before .before .before .width-of .result in
-    let s : c .before .before .before .sum-pairs .result ≡ sum (bytes (take (2 * n) (drop 2 l))) % 256 = rw add-sub-cancel-left at (c .before .before .before .sum-pairs .ensures) in
+    let at-if7 = c .before .before in
+    let at-sum-pairs = at-if7 .before in
+    let at-byte-of2 = at-sum-pairs .before .before in
+    let at-place = at-byte-of2 .before .before .before in
+    let at-byte-of = at-place .before .before in
+    let at-width-of = at-byte-of .before .before .before .before .before .before .before in
+    let at-args = at-width-of .before .before .before .before .before .before .before in
+    let l = at-args .args .chars .now in
+    let n = at-byte-of .byte-of .result in
+    let w = at-width-of .width-of .result in
+    let s : at-sum-pairs .sum-pairs .result ≡ sum (bytes (take (2 * n) (drop 2 l))) % 256
+    = rw add-sub-cancel-left at (at-sum-pairs .sum-pairs .ensures) in
     let a : c .number-of .result ≡ number (bytes (take (2 * w) (drop 4 l))) = rw add-sub-cancel-left at (c .number-of .ensures) in
     ap (λ (x : ℕ). Good (getD l 1 0) x (n - (w + 1))) a
-    ∙ good-record l w n (sized-at (c .before .before .before .before .before .before .before .before)) (sym (c .before .before .before .before .before .byte-of2 .ensures) ∙ c .before .before .if7 .left ∙ ap (λ (x : ℕ). 255 - x) s) (c .before .before .before .before .before .before .before .before .before .before .before .before .before .before .before .before .before .before .before .before .before .before .before .before .args .place)
+    ∙ good-record l w n (sized-at at-place) (sym (at-byte-of2 .byte-of2 .ensures) ∙ at-if7 .if7 .left ∙ ap (λ (x : ℕ). 255 - x) s)
+    (at-args .args .place)
 
 pub read-record-spec : {M : Type 1} → statement M
 read-record-spec =

@@ -51,13 +51,26 @@ part-store-pairs-end c = let r = got-at (c .before .before .before) in omega (ar
 
 store-pairs-requires : tie.Need-store-pairs-requires
 store-pairs-requires c κs =
-    let r = got-at (c .before .before .before .before) in (
-      c .before .before .before .before .before .before .before .before .pre,
-      rw length-take (omega (arith, length-take-le _ zeros (r .small .1), r .fields .long, r .small .2, r .len, length-drop 8 (c .before .before .before .before .before .before .before .before .args .chars .now))),
+    let at-place = c .before .before .before .before in
+    let at-args = at-place .before .before .before .before in
+    let r = got-at at-place in (
+      at-args .pre,
+      rw length-take (omega (
+        arith,
+        length-take-le _ zeros (r .small .1),
+        r .fields .long,
+        r .small .2,
+        r .len,
+        length-drop 8
+            (at-args .args .chars .now),
+      )),
     )
 
 returns-3 : tie.Need-returns-3
-returns-3 c = header-s0 _ _ _ _ (got-at (c .before .before .before .before .before .before)) (c .before .before .before .before .if1 .left) _ (c .before .store-pairs .ensures)
+returns-3 c =
+    let at-if1 = c .before .before .before .before in
+    let at-place = at-if1 .before .before in
+    header-s0 _ _ _ _ (got-at at-place) (at-if1 .if1 .left) _ (c .before .store-pairs .ensures)
 
 pub header-in-spec : {M : Type 1} → statement M
 header-in-spec =

@@ -23,7 +23,11 @@ enum-told : tie.Need-enum-told
 enum-told c = search needs
 
 returns : tie.Need-returns
-returns c = sym (ap (λ ls. headerOf (firstHeader ls)) (next-none (c .before .before .before .before .args .text .now) 0 (sym (c .enum-told .given .1) ∙ c .before .before .next-record .ensures)))
+returns c =
+    let at-next-record = c .before .before in
+    let at-args = at-next-record .before .before in
+    sym (ap (λ ls. headerOf (firstHeader ls)) (next-none (at-args .args .text .now) 0
+    (sym (c .enum-told .given .1) ∙ at-next-record .next-record .ensures)))
 
 sub-header-in : tie.Need-sub-header-in
 sub-header-in c = omega (arith, next-at (c .before) .some-chars)

@@ -53,17 +53,24 @@ part-store-record-end c = omega (arith, next-at (c .before .before) .high)
 
 store-record-requires : tie.Need-store-record-requires Inv-loop μ-loop
 store-record-requires c κs =
-    let s = c .before .before .before .before .before .before .before .before .before in
-    (s .pre .0, storing-turn _ _ _ (s .pre .1) _ _ _ _ (c .before .before .before .before .before .before .loop .inv .1) (next-at (c .before .before .before)) .placeable)
+    let at-place = c .before .before .before in
+    let at-loop = at-place .before .before .before in
+    let s = at-loop .before .before .before in
+    (s .pre .0, storing-turn _ _ _ (s .pre .1) _ _ _ _ (at-loop .loop .inv .1) (next-at at-place) .placeable)
 
 loop-less : tie.Need-loop-less Inv-loop μ-loop
 loop-less c = let x = next-at (c .before .before .before .before .before .before) in omega (arith, x .low, x .some-chars, x .high)
 
 loop-again : tie.Need-loop-again Inv-loop μ-loop
 loop-again c =
-    let s = c .before .before .before .before .before .before .before .before .before .before .before .before in (
-      c .before .before .store-record .kept .1 .1 .0 ∙ c .before .before .before .before .before .before .before .before .before .loop .inv .0,
-      storing-turn _ _ _ (s .pre .1) _ _ _ _ (c .before .before .before .before .before .before .before .before .before .loop .inv .1) (next-at (c .before .before .before .before .before .before)) .goes-on _ (c .before .before .store-record .ensures),
+    let at-store-record = c .before .before in
+    let at-place = at-store-record .before .before .before .before in
+    let at-loop = at-place .before .before .before in
+    let at-place-2 = at-loop .before .before .before in
+    let s = at-place-2 in (
+      at-store-record .store-record .kept .1 .1 .0 ∙ at-loop .loop .inv .0,
+      storing-turn _ _ _ (s .pre .1) _ _ _ _ (at-loop .loop .inv .1) (next-at at-place) .goes-on _
+          (at-store-record .store-record .ensures),
     )
 
 pub store-all-spec : {M : Type 1} → statement M

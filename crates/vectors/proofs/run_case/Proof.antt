@@ -65,7 +65,9 @@ part-run-window-end : tie.Need-part-run-window-end
 part-run-window-end c = search needs
 
 run-window-requires : tie.Need-run-window-requires
-run-window-requires c κs = (c .before .before .before .before .before .before .before .before .before .before .before .before .before .before .before .before .pre .0, rw length-take (omega arith))
+run-window-requires c κs =
+    let at-pre = c .before .before .before .before .before .before .before .before .before .before .before .before .before .before .before .before in
+    (at-pre .pre .0, rw length-take (omega arith))
 
 same-length : tie.Need-same-length
 same-length c = search needs

@@ -61,13 +61,16 @@ part-put-line-end c = omega (arith, ends (c .before))
 
 put-line-requires : tie.Need-put-line-requires Inv-loop μ-loop
 put-line-requires c κs =
-    let s = c .before .before .before .before .before .before .before .before .before in
+    let at-run-end = c .before .before in
+    let at-loop = at-run-end .before .before in
+    let s = at-loop .before .before .before .before .before in
     let a = s .args in
-    let l = c .before .before .before .before .loop in
-    let r = c .before .before .run-end in
-    let b = ends (c .before .before) in (
+    let l = at-loop .loop in
+    let r = at-run-end .run-end in
+    let b = ends at-run-end in (
       (s .pre .0 .0, omega (arith, b, length-run (a .memory .now) (l .from) (r .result) (omega (arith, b)))),
-      data-room (a .base) (a .memory .now) (a .marks .now) (a .width) (s .pre .0 .1) (l .from) (r .result) (omega arith) (l .inv .1) (r .ensures) (a .start) (l .at) (a .out .now) (l .out) (s .pre .1) (l .inv .2),
+      data-room (a .base) (a .memory .now) (a .marks .now) (a .width) (s .pre .0 .1) (l .from) (r .result) (omega arith) (l .inv .1)
+          (r .ensures) (a .start) (l .at) (a .out .now) (l .out) (s .pre .1) (l .inv .2),
     )
 
 skip-requires-2 : tie.Need-skip-requires-2 Inv-loop μ-loop
@@ -83,15 +86,19 @@ loop-less c = omega (arith, ends (c .before .before .before .before .before .bef
 
 loop-again : tie.Need-loop-again Inv-loop μ-loop
 loop-again c =
-    let s = c .before .before .before .before .before .before .before .before .before .before .before .before .before in
+    let at-put-line = c .before .before .before in
+    let at-run-end = at-put-line .before .before .before in
+    let at-loop = at-run-end .before .before in
+    let s = at-loop .before .before .before .before .before in
     let a = s .args in
-    let l = c .before .before .before .before .before .before .before .before .loop in
-    let r = c .before .before .before .before .before .before .run-end in
-    let p = c .before .before .before .put-line in
+    let l = at-loop .loop in
+    let r = at-run-end .run-end in
+    let p = at-put-line .put-line in
     let n = next c in (
       n .1,
       n .2,
-      data-more (a .base) (a .memory .now) (a .marks .now) (a .width) (s .pre .0 .1) (l .from) (r .result) (omega arith) (l .inv .1) (r .ensures) (a .start) (l .at) (a .out .now) (l .out) (s .pre .1) (l .inv .2)
+      data-more (a .base) (a .memory .now) (a .marks .now) (a .width) (s .pre .0 .1) (l .from) (r .result) (omega arith) (l .inv .1)
+          (r .ensures) (a .start) (l .at) (a .out .now) (l .out) (s .pre .1) (l .inv .2)
           (c .skip2 .result) (p .result) (p .last .0) (c .skip2 .ensures) (p .ensures .0) (p .ensures .1) (p .kept .0),
     )
 
@@ -103,7 +110,8 @@ returns c =
     let s = c .before .before .before .before .before .before in
     let a = s .args in
     let l = c .before .loop in
-    data-end (a .base) (a .memory .now) (a .marks .now) (a .width) (s .pre .0 .1) (l .from) (a .start) (l .at) (a .out .now) (l .out) (c .loop-test .left) (l .inv .2)
+    data-end (a .base) (a .memory .now) (a .marks .now) (a .width) (s .pre .0 .1) (l .from) (a .start) (l .at) (a .out .now) (l .out)
+    (c .loop-test .left) (l .inv .2)
 
 pub put-cells-spec : {M : Type 1} → statement M
 put-cells-spec =

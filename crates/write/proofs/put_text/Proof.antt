@@ -53,25 +53,33 @@ after-header c =
     line-more (whole s) 48 2 0 (s .args .header .now) (from-data s) 0 0 (s .args .out .now) (s .args .out .now) (fits s) (at-start s)
     (c .put-line .result) (c .put-line .last .0) (c .put-line .ensures .0) (c .put-line .ensures .1) (c .put-line .kept .0)
 
-after-data : (c : tie.After-put-cells) → Left (c .before .before .before .before .before .before .before .before .before .before) (from-count (c .before .before .before .before .before .before .before .before .before .before)) (c .put-cells .result) (c .put-cells .last .0)
+after-data : (c : tie.After-put-cells) → Left (c .before .before .before .before .before .before .before .before .before .before)
+    (from-count (c .before .before .before .before .before .before .before .before .before .before)) (c .put-cells .result)
+    (c .put-cells .last .0)
 after-data c =
-    let s = c .before .before .before .before .before .before .before .before .before .before in
-    let p = c .before .before .before .before .put-line in
-    pending-more (whole s) (dataText (s .args .width) (shown (window s))) (from-count s) 0 (p .result) (c .put-cells .result) (s .args .out .now) (p .last .0) (c .put-cells .last .0)
-    (fits s) (after-header (c .before .before .before .before)) (c .put-cells .ensures .0) (c .put-cells .ensures .1) (c .put-cells .kept .0)
+    let at-put-line = c .before .before .before .before in
+    let s = at-put-line .before .before .before .before .before .before in
+    let p = at-put-line .put-line in
+    pending-more (whole s) (dataText (s .args .width) (shown (window s))) (from-count s) 0 (p .result) (c .put-cells .result)
+    (s .args .out .now) (p .last .0) (c .put-cells .last .0)
+    (fits s) (after-header at-put-line) (c .put-cells .ensures .0) (c .put-cells .ensures .1) (c .put-cells .kept .0)
 
 after-count : (c : tie.After-put-count) → Left (c .before .before .before .before .before .before .before .before .before .before .before .before .before .before) (last (c .before .before .before .before .before .before .before .before .before .before .before .before .before .before) ++ []) (c .put-count .result) (c .put-count .last .0)
 after-count c =
-    let s = c .before .before .before .before .before .before .before .before .before .before .before .before .before .before in
-    let p = c .before .before .before .before .put-cells in
-    pending-more (whole s) (countText (s .args .records)) (last s ++ []) 0 (p .result) (c .put-count .result) (s .args .out .now) (p .last .0) (c .put-count .last .0)
-    (fits s) (after-data (c .before .before .before .before)) (c .put-count .ensures .0) (c .put-count .ensures .1) (c .put-count .kept .0)
+    let at-put-cells = c .before .before .before .before in
+    let s = at-put-cells .before .before .before .before .before .before .before .before .before .before in
+    let p = at-put-cells .put-cells in
+    pending-more (whole s) (countText (s .args .records)) (last s ++ []) 0 (p .result) (c .put-count .result) (s .args .out .now)
+    (p .last .0) (c .put-count .last .0)
+    (fits s) (after-data at-put-cells) (c .put-count .ensures .0) (c .put-count .ensures .1) (c .put-count .kept .0)
 
 after-last : (c : tie.After-put-line2) → Left (c .before .before .before .before .before .before .before .before .before .before .before .before .before .before .before .before .before .before .before) [] (c .put-line2 .result) (c .put-line2 .last .0)
 after-last c =
-    let s = c .before .before .before .before .before .before .before .before .before .before .before .before .before .before .before .before .before .before .before in
-    let p = c .before .before .before .before .before .put-count in
-    line-more (whole s) (59 - s .args .width) (s .args .width) (s .args .entry) [] [] 0 (p .result) (s .args .out .now) (p .last .0) (fits s) (after-count (c .before .before .before .before .before))
+    let at-put-count = c .before .before .before .before .before in
+    let s = at-put-count .before .before .before .before .before .before .before .before .before .before .before .before .before .before in
+    let p = at-put-count .put-count in
+    line-more (whole s) (59 - s .args .width) (s .args .width) (s .args .entry) [] [] 0 (p .result) (s .args .out .now) (p .last .0)
+    (fits s) (after-count at-put-count)
     (c .put-line2 .result) (c .put-line2 .last .0) (c .put-line2 .ensures .0) (c .put-line2 .ensures .1) (c .put-line2 .kept .0)
 
 put-line-requires : tie.Need-put-line-requires
@@ -83,20 +91,26 @@ put-line-requires c κs =
 
 put-cells-requires : tie.Need-put-cells-requires
 put-cells-requires c κs =
-    let s = c .before .before .before .before .before .before .before .before .before in
-    let p = c .before .before .before .put-line in (
+    let at-put-line = c .before .before .before in
+    let s = at-put-line .before .before .before .before .before .before in
+    let p = at-put-line .put-line in (
       (narrow s, s .pre .0 .0, s .pre .0 .1),
-      pending-room (whole s) (dataText (s .args .width) (shown (window s))) (from-count s) 0 (p .result) (s .args .out .now) (p .last .0) (fits s) (after-header (c .before .before .before)),
+      pending-room (whole s) (dataText (s .args .width) (shown (window s))) (from-count s) 0 (p .result) (s .args .out .now) (p .last .0)
+          (fits s) (after-header at-put-line),
     )
 
 put-count-requires : tie.Need-put-count-requires
 put-count-requires c κs =
-    let s = c .before .before .before .before .before .before .before .before .before .before .before .before .before in
-    let p = c .before .before .before .put-cells in
-    pending-room (whole s) (countText (s .args .records)) (last s ++ []) 0 (p .result) (s .args .out .now) (p .last .0) (fits s) (after-data (c .before .before .before))
+    let at-put-cells = c .before .before .before in
+    let s = at-put-cells .before .before .before .before .before .before .before .before .before .before in
+    let p = at-put-cells .put-cells in
+    pending-room (whole s) (countText (s .args .records)) (last s ++ []) 0 (p .result) (s .args .out .now) (p .last .0) (fits s)
+    (after-data at-put-cells)
 
 sub-kind : tie.Need-sub-kind
-sub-kind c = omega (arith, narrow (c .before .before .before .before .before .before .before .before .before .before .before .before .before .before .before .before))
+sub-kind c =
+    let at-place = c .before .before .before .before .before .before .before .before .before .before .before .before .before .before .before .before in
+    omega (arith, narrow at-place)
 
 cast-kind : tie.Need-cast-kind
 cast-kind c = search needs
@@ -106,10 +120,12 @@ slice-aggregate-put-line c = search needs
 
 put-line-requires-2 : tie.Need-put-line-requires-2
 put-line-requires-2 c κs =
-    let s = c .before .before .before .before .before .before .before .before .before .before .before .before .before .before .before .before .before .before in
-    let p = c .before .before .before .before .put-count in (
+    let at-put-count = c .before .before .before .before in
+    let s = at-put-count .before .before .before .before .before .before .before .before .before .before .before .before .before .before in
+    let p = at-put-count .put-count in (
       (narrow s, omega (arith, narrow s)),
-      line-room (whole s) (59 - s .args .width) (s .args .width) (s .args .entry) [] [] 0 (p .result) (s .args .out .now) (p .last .0) (fits s) (after-count (c .before .before .before .before)),
+      line-room (whole s) (59 - s .args .width) (s .args .width) (s .args .entry) [] [] 0 (p .result) (s .args .out .now) (p .last .0)
+          (fits s) (after-count at-put-count),
     )
 
 same-length : tie.Need-same-length
@@ -117,9 +133,10 @@ same-length c = search needs
 
 returns : tie.Need-returns
 returns c =
-    let s = c .before .before .before .before .before .before .before .before .before .before .before .before .before .before .before .before .before .before .before .before .before in
-    let p = c .before .before .put-line2 in
-    pending-end (whole s) 0 (p .result) (s .args .out .now) (p .last .0) (after-last (c .before .before)) .1
+    let at-put-line2 = c .before .before in
+    let s = at-put-line2 .before .before .before .before .before .before .before .before .before .before .before .before .before .before .before .before .before .before .before in
+    let p = at-put-line2 .put-line2 in
+    pending-end (whole s) 0 (p .result) (s .args .out .now) (p .last .0) (after-last at-put-line2) .1
 
 pub put-text-spec : {M : Type 1} → statement M
 put-text-spec =

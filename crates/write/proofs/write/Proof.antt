@@ -34,8 +34,11 @@ refused-requires c κs = search needs
 
 returns : tie.Need-returns
 returns c =
-    let a = c .before .before .before .before .before .before .args in
-    declines (a .base) (a .memory .now) (a .marks .now) (a .header .now) (a .entry) (length (a .out .now)) (refusal 1 0 0) (c .refused .result) (a .out .now) (row-1-lengths (a .base) (a .memory .now) (a .marks .now) (a .header .now) (a .entry) (length (a .out .now)) (c .before .if1 .taken)) (c .refused .ensures)
+    let at-args = c .before .before .before .before .before .before in
+    let a = at-args .args in
+    declines (a .base) (a .memory .now) (a .marks .now) (a .header .now) (a .entry) (length (a .out .now)) (refusal 1 0 0)
+    (c .refused .result) (a .out .now) (row-1-lengths (a .base) (a .memory .now) (a .marks .now) (a .header .now) (a .entry)
+    (length (a .out .now)) (c .before .if1 .taken)) (c .refused .ensures)
 
 add-if2 : tie.Need-add-if2
 add-if2 c = search needs
@@ -45,16 +48,24 @@ refused-requires-2 c κs = search needs
 
 returns-2 : tie.Need-returns-2
 returns-2 c =
-    let a = c .before .before .before .before .before .before .before .args in
-    declines (a .base) (a .memory .now) (a .marks .now) (a .header .now) (a .entry) (length (a .out .now)) (refusal 1 0 0) (c .refused2 .result) (a .out .now) (row-1-reach (a .base) (a .memory .now) (a .marks .now) (a .header .now) (a .entry) (length (a .out .now)) (c .before .before .if1 .left) (c .before .if2 .taken)) (c .refused2 .ensures)
+    let at-if1 = c .before .before in
+    let at-args = at-if1 .before .before .before .before .before in
+    let a = at-args .args in
+    declines (a .base) (a .memory .now) (a .marks .now) (a .header .now) (a .entry) (length (a .out .now)) (refusal 1 0 0)
+    (c .refused2 .result) (a .out .now) (row-1-reach (a .base) (a .memory .now) (a .marks .now) (a .header .now) (a .entry)
+    (length (a .out .now)) (at-if1 .if1 .left) (c .before .if2 .taken)) (c .refused2 .ensures)
 
 refused-requires-3 : tie.Need-refused-requires-3
 refused-requires-3 c κs = search needs
 
 returns-3 : tie.Need-returns-3
 returns-3 c =
-    let a = c .before .before .before .before .before .before .before .before .args in
-    declines (a .base) (a .memory .now) (a .marks .now) (a .header .now) (a .entry) (length (a .out .now)) (refusal 15 0 0) (c .refused3 .result) (a .out .now) (row-15 (a .base) (a .memory .now) (a .marks .now) (a .header .now) (a .entry) (length (a .out .now)) (allowed (c .before .before)) (c .before .if3 .taken)) (c .refused3 .ensures)
+    let at-place = c .before .before in
+    let at-args = at-place .before .before .before .before .before .before in
+    let a = at-args .args in
+    declines (a .base) (a .memory .now) (a .marks .now) (a .header .now) (a .entry) (length (a .out .now)) (refusal 15 0 0)
+    (c .refused3 .result) (a .out .now) (row-15 (a .base) (a .memory .now) (a .marks .now) (a .header .now) (a .entry)
+    (length (a .out .now)) (allowed at-place) (c .before .if3 .taken)) (c .refused3 .ensures)
 
 first-bad-mark-requires : tie.Need-first-bad-mark-requires
 first-bad-mark-requires c κs = search needs
@@ -64,10 +75,16 @@ refused-requires-4 c κs = search needs
 
 returns-4 : tie.Need-returns-4
 returns-4 c =
-    let a = c .before .before .before .before .before .before .before .before .before .before .args in
-    let bad = c .before .before .first-bad-mark .ensures in
-    declines (a .base) (a .memory .now) (a .marks .now) (a .header .now) (a .entry) (length (a .out .now)) (refusal 16 0 (firstBadMark (a .marks .now))) (c .refused4 .result) (a .out .now)
-    (row-16 (a .base) (a .memory .now) (a .marks .now) (a .header .now) (a .entry) (length (a .out .now)) (allowed (c .before .before .before .before)) (c .before .before .before .if3 .left) (omega (arith, bad, c .before .if4 .taken))) (rw bad at (c .refused4 .ensures))
+    let at-first-bad-mark = c .before .before in
+    let at-if3 = at-first-bad-mark .before in
+    let at-place = at-if3 .before in
+    let at-args = at-place .before .before .before .before .before .before in
+    let a = at-args .args in
+    let bad = at-first-bad-mark .first-bad-mark .ensures in
+    declines (a .base) (a .memory .now) (a .marks .now) (a .header .now) (a .entry) (length (a .out .now))
+    (refusal 16 0 (firstBadMark (a .marks .now))) (c .refused4 .result) (a .out .now)
+    (row-16 (a .base) (a .memory .now) (a .marks .now) (a .header .now) (a .entry) (length (a .out .now)) (allowed at-place)
+    (at-if3 .if3 .left) (omega (arith, bad, c .before .if4 .taken))) (rw bad at (c .refused4 .ensures))
 
 measure-requires : tie.Need-measure-requires
 measure-requires c κs = search needs
@@ -84,28 +101,53 @@ text-length-requires c κs =
     let n = c .before .measure .ensures .1 in
     (omega (arith, n), omega (arith, n), omega arith, rw (c .width-for .ensures) (width-is (c .before .measure .result .largest) .small))
 
-needed : (c : tie.After-text-length) → c .text-length .result ≡ length (text (c .before .before .before .before .before .before .before .before .before .before .before .before))
+needed : (c : tie.After-text-length) → c .text-length .result ≡ length
+    (text (c .before .before .before .before .before .before .before .before .before .before .before .before))
 needed c =
-    let s = c .before .before .before .before .before .before .before .before .before .before .before .before in
-    need-is (window s) (s .args .header .now) (s .args .entry) (c .before .before .measure .result) (c .before .width-for .result) (c .text-length .result)
-    (sized (c .before .before)) (c .before .width-for .ensures) (c .text-length .ensures)
+    let at-measure = c .before .before in
+    let s = at-measure .before .before .before .before .before .before .before .before .before .before in
+    need-is (window s) (s .args .header .now) (s .args .entry) (at-measure .measure .result) (c .before .width-for .result)
+    (c .text-length .result)
+    (sized at-measure) (c .before .width-for .ensures) (c .text-length .ensures)
 
 refused-requires-5 : tie.Need-refused-requires-5
 refused-requires-5 c κs = search needs
 
 returns-5 : tie.Need-returns-5
 returns-5 c =
-    let a = c .before .before .before .before .before .before .before .before .before .before .before .before .before .before .args in
-    let need = needed (c .before .before) in
-    declines (a .base) (a .memory .now) (a .marks .now) (a .header .now) (a .entry) (length (a .out .now)) (refusal 17 0 (length (text (c .before .before .before .before .before .before .before .before .before .before .before .before .before .before)))) (c .refused5 .result) (a .out .now)
-    (row-17 (a .base) (a .memory .now) (a .marks .now) (a .header .now) (a .entry) (length (a .out .now)) (allowed (c .before .before .before .before .before .before .before .before)) (c .before .before .before .before .before .before .before .if3 .left) (omega (arith, c .before .before .before .before .before .before .first-bad-mark .ensures, c .before .before .before .before .before .if4 .left)) (omega (arith, need, c .before .if5 .taken)))
+    let at-place = c .before .before in
+    let at-if4 = at-place .before .before .before in
+    let at-first-bad-mark = at-if4 .before in
+    let at-if3 = at-first-bad-mark .before in
+    let at-place-2 = at-if3 .before in
+    let at-args = at-place-2 .before .before .before .before .before .before in
+    let a = at-args .args in
+    let need = needed at-place in
+    declines (a .base) (a .memory .now) (a .marks .now) (a .header .now) (a .entry) (length (a .out .now))
+    (refusal 17 0 (length (text at-args))) (c .refused5 .result) (a .out .now)
+    (row-17 (a .base) (a .memory .now) (a .marks .now) (a .header .now) (a .entry) (length (a .out .now)) (allowed at-place-2)
+    (at-if3 .if3 .left) (omega (arith, at-first-bad-mark .first-bad-mark .ensures, at-if4 .if4 .left))
+    (omega (arith, need, c .before .if5 .taken)))
     (rw need at (c .refused5 .ensures))
 
 put-text-requires : tie.Need-put-text-requires
 put-text-requires c κs =
-    let size = sized (c .before .before .before .before) in (
-      (sym (c .before .before .before .before .before .before .before .before .before .if1 .left), omega (arith, c .before .before .before .before .before .before .before .before .before .if1 .left, c .before .before .before .before .before .before .before .before .if2 .left), c .before .before .before .before .before .before .before .if3 .left),
-      (ap (λ (z : Size). z .records) size, (c .before .before .before .width-for .ensures ∙ ap (λ (z : Size). widthFor (z .largest)) size, omega (arith, needed (c .before .before), c .before .if5 .left))),
+    let at-place = c .before .before in
+    let at-width-for = at-place .before in
+    let at-place-2 = at-width-for .before in
+    let at-if3 = at-place-2 .before .before .before in
+    let at-if2 = at-if3 .before in
+    let at-if1 = at-if2 .before in
+    let size = sized at-place-2 in (
+      (sym (at-if1 .if1 .left), omega (arith, at-if1 .if1 .left, at-if2 .if2 .left), at-if3 .if3 .left),
+      (
+        ap (λ (z : Size). z .records) size,
+        (
+          at-width-for .width-for .ensures ∙ ap (λ (z : Size). widthFor (z .largest)) size,
+          omega
+              (arith, needed at-place, c .before .if5 .left),
+        ),
+      ),
     )
 
 accepted-requires : tie.Need-accepted-requires
@@ -116,11 +158,22 @@ same-length c = search needs
 
 returns-6 : tie.Need-returns-6
 returns-6 c =
-    let a = c .before .before .before .before .before .before .before .before .before .before .before .before .before .before .before .before .before .before .args in
-    let need = needed (c .before .before .before .before .before .before) in
-    accepts (a .base) (a .memory .now) (a .marks .now) (a .header .now) (a .entry) (length (a .out .now)) (c .accepted .result) (a .out .now) (c .before .before .before .put-text .last .0) (c .before .before .before .before .before .before .text-length .result)
-    (is-written (a .base) (a .memory .now) (a .marks .now) (a .header .now) (a .entry) (length (a .out .now)) (allowed (c .before .before .before .before .before .before .before .before .before .before .before .before)) (c .before .before .before .before .before .before .before .before .before .before .before .if3 .left) (omega (arith, c .before .before .before .before .before .before .before .before .before .before .first-bad-mark .ensures, c .before .before .before .before .before .before .before .before .before .if4 .left)) (omega (arith, need, c .before .before .before .before .before .if5 .left)))
-    need (c .accepted .ensures) (c .before .before .before .put-text .ensures)
+    let at-put-text = c .before .before .before in
+    let at-if5 = at-put-text .before .before in
+    let at-text-length = at-if5 .before in
+    let at-if4 = at-text-length .before .before .before in
+    let at-first-bad-mark = at-if4 .before in
+    let at-if3 = at-first-bad-mark .before in
+    let at-place = at-if3 .before in
+    let at-args = at-place .before .before .before .before .before .before in
+    let a = at-args .args in
+    let need = needed at-text-length in
+    accepts (a .base) (a .memory .now) (a .marks .now) (a .header .now) (a .entry) (length (a .out .now)) (c .accepted .result)
+    (a .out .now) (at-put-text .put-text .last .0) (at-text-length .text-length .result)
+    (is-written (a .base) (a .memory .now) (a .marks .now) (a .header .now) (a .entry) (length (a .out .now)) (allowed at-place)
+    (at-if3 .if3 .left) (omega (arith, at-first-bad-mark .first-bad-mark .ensures, at-if4 .if4 .left))
+    (omega (arith, need, at-if5 .if5 .left)))
+    need (c .accepted .ensures) (at-put-text .put-text .ensures)
 
 pub write-spec : {M : Type 1} → statement M
 write-spec =
