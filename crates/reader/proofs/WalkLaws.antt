@@ -1,6 +1,6 @@
 -- The records of a text, as a loop comes to them: at a place, one after the other.
 use mathlib.Core.Path.{_≡_, refl, sym, ap, _∙_}
-use Prim.Native.Nat.{ℕ, suc, _+_, _-_, _≤_, _<_}
+use Prim.Native.Nat.{ℕ, suc, _+_, _-_, _*_, _≤_, _<_}
 use native.Mathlib.Nat.{add-zero, add-suc, suc-add}
 use native.Mathlib.Numerals.{add-one}
 use native.Mathlib.Omega.{arith}
@@ -8,12 +8,13 @@ use mathlib.Core.Bool.{true, false}
 use mathlib.Core.List.{List, [], _∷_}
 use lib.Dec.{ltb}
 use lib.ListN.{length, getD, take, drop, drop-of-length-le, length-drop}
-use lib.Seq.{drop-cons, drop-drop, take-all}
+use lib.Seq.{drop-cons, drop-drop, take-all, getD-take, getD-drop, length-take-le}
 use borrow.Author.Tests.{ltb-true, ltb-false}
 use Rattle.srec.specs.Lines.{Line, isEnd, front, push, behind, lines}
+use Rattle.hex.specs.Digits.{byteOf}
 use Rattle.hex.proofs.TestLaws.{by-test}
 use Rattle.reader.specs.declared.Found.the-variants.{At, Nothing}
-use Rattle.reader.specs.Records.{leading, found}
+use Rattle.reader.specs.Records.{leading, found, Counted}
 
 -- ---- counting line ends, and the characters before one
 
@@ -56,6 +57,10 @@ front-take : (t : List ℕ) → front t ≡ take (length (front t)) t
 front-take [] = refl
 front-take (c ∷ cs) = by-test (isEnd c) (λ e. rw e) (λ e. rw e (ap {B = List ℕ} (λ (r : List ℕ). c ∷ r) (front-take cs)))
 
+shorter : (t : List ℕ) → length (front t) ≤ length t
+shorter [] = omega arith
+shorter (c ∷ cs) = by-test (isEnd c) (λ e. rw e (omega arith)) (λ e. rw e (omega (arith, shorter cs)))
+
 -- what follows the line ends is a record
 first-record : (t : List ℕ) (at : ℕ) → 0 < length (drop (leading t) t)
     → (0 < length (front (drop (leading t) t)))
@@ -72,10 +77,10 @@ part text i e = take (e - i) (drop i text)
 
 module _ (text : List ℕ) (at : ℕ) where
   -- where the next record starts and ends
-  abbrev from : ℕ
+  abbrev pub from : ℕ
   from = at + leading (drop at text)
 
-  abbrev to : ℕ
+  abbrev pub to : ℕ
   to = from + length (front (drop from text))
 
   moved : drop (leading (drop at text)) (drop at text) ≡ drop from text
@@ -109,11 +114,24 @@ module _ (text : List ℕ) (at : ℕ) where
   pub next-at : from < length text → At from to ≡ found (lines at (drop at text))
   next-at h = rw (one-record h) (ap (At from) (ap (λ (n : ℕ). from + n) (ap length chars-are)))
 
--- ---- what a caller learns of an answer
+  -- a record that is as long as its count says ends where that says
+  pub record ByCount : Type 0 where
+    pub four : from + 4 ≤ length text
+    pub end-is : to ≡ from + (4 + 2 * byteOf (getD text (from + 2) 0) (getD text (from + 3) 0))
 
-shorter : (t : List ℕ) → length (front t) ≤ length t
-shorter [] = omega arith
-shorter (c ∷ cs) = by-test (isEnd c) (λ e. rw e (omega arith)) (λ e. rw e (omega (arith, shorter cs)))
+  pub by-count : from < length text → Counted (lines at (drop at text)) → ByCount
+  by-count h k =
+      let n : ℕ = to - from in
+      let is : length (part text from to) ≡ 4 + 2 * byteOf (getD (part text from to) 2 0) (getD (part text from to) 3 0) = rw (one-record h) at k in
+      let l : length (part text from to) ≡ n = length-take-le n (drop from text) (omega (arith, shorter (drop from text), length-drop from text)) in
+      let digit : (i : ℕ) → i < n → getD (part text from to) i 0 ≡ getD text (from + i) 0
+      = λ i j. getD-take n (drop from text) i 0 j ∙ getD-drop from text i 0 in
+      let four : 4 ≤ n = omega (arith, is, l) in
+      let e : n ≡ 4 + 2 * byteOf (getD text (from + 2) 0) (getD text (from + 3) 0)
+      = sym l ∙ is ∙ (λ i. 4 + 2 * byteOf (digit 2 (omega (arith, four)) i) (digit 3 (omega (arith, four)) i)) in
+      record { four = omega (arith, four, shorter (drop from text), length-drop from text); end-is = omega (arith, e, four) }
+
+-- ---- what a caller learns of an answer
 
 pub record Next (text : List ℕ) (at from to : ℕ) : Type 0 where
   pub low : at ≤ from

@@ -7,7 +7,7 @@ ghost use Rattle.hex.specs.Tables.{digitTable};
 ghost use Rattle.srec.specs.Lines.{isEnd, front, lines};
 ghost use Rattle.srec.specs.Kinds.{kindOf, known};
 ghost use Rattle.srec.specs.Reading.{row6, read};
-ghost use Rattle.reader.specs.Records.{leading, found, widthOr0, asRecord};
+ghost use Rattle.reader.specs.Records.{leading, found, Counted, widthOr0, asRecord};
 
 // The next record of a text: from its first character to behind its last one.
 pub enum Found {
@@ -66,6 +66,20 @@ pub fn next_record(text: &[u8], at: usize) -> Found
         return Found::Nothing;
     }
     let to = from + count_chars(&text[from..]);
+    Found::At { from, to }
+}
+
+// The first record from a place on, of a text whose records are as long as their counts say: it does not look for the end.
+pub fn next_counted(table: &[u8; 256], text: &[u8], at: usize) -> Found
+    requires { ⌜ (now table ≡ digitTable) × (at ≤ length (now text)) × Counted (lines at (drop at (now text))) ⌝ }
+    ensures { λ r. ⌜ r ≡ found (lines at (drop at (now (text .entry)))) ⌝ }
+{
+    let from = at + count_ends(&text[at..]);
+    if from == text.len() {
+        return Found::Nothing;
+    }
+    let count = hex::byte_of(table, text[from + 2], text[from + 3]) as usize;
+    let to = from + (4 + 2 * count);
     Found::At { from, to }
 }
 

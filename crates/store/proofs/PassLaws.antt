@@ -1,10 +1,11 @@
 -- The storing pass over a text that was accepted: no row refuses, and memory follows the image.
-use mathlib.Core.Path.{_≡_, refl, sym, ap, _∙_}
-use Prim.Native.Nat.{ℕ, suc, _-_, _≤_}
+use mathlib.Core.Path.{_≡_, refl, sym, ap, _∙_, subst}
+use Prim.Native.Nat.{ℕ, suc, _+_, _-_, _*_, _≤_}
 use native.Mathlib.Omega.{arith}
 use mathlib.Core.List.{List, [], _∷_}
 use mathlib.Core.Logic.{_⊎_, inl, inr}
-use lib.ListN.{length, drop}
+use lib.ListN.{length, getD, drop}
+use Rattle.hex.specs.Digits.{byteOf}
 use Rattle.window.specs.declared.Refusal.{Refusal}
 use Rattle.window.specs.Images.{Image, blank, over, overlaid}
 use Rattle.window.specs.Plans.{Plan, Outcome, row12, row13, filled, placed}
@@ -21,9 +22,10 @@ use Rattle.srec.specs.Scan.{State as ScanState, start, row8, row9, row10, row11
 use Rattle.srec.specs.Scan.Step.{refuse, pass, put, finish}
 use Rattle.srec.specs.Load.{memoryAfter}
 use Rattle.reader.specs.declared.Found.the-variants.{Nothing}
-use Rattle.reader.specs.Records.{found}
-use Rattle.reader.proofs.WalkLaws.{part, Next}
+use Rattle.reader.specs.Records.{found, Counted}
+use Rattle.reader.proofs.WalkLaws.{part, Next, next-is}
 use Rattle.store.specs.Stores.{storedBy, Placeable, Accepts}
+use Rattle.store.proofs.StoreLaws.{Readable, readable}
 use Rattle.reader.proofs.TurnLaws.{Walk, walk-start, walk-none, walk-refused, walk-pass, walk-ended, walk-store, walk-put}
 
 -- memory shows the image of a walk, or the terminator is behind it
@@ -126,3 +128,17 @@ module _ (text : List ℕ) (base : ℕ) (m₀ : List ℕ) (acc : Accepts (placed
     where
       none : {l : Line} {ls : List Line} → [] ≡ l ∷ ls → ⊥
       none q = let z : _≡_ {A = ℕ} 0 1 = cc in omega arith
+
+  -- each record is as long as its count says
+  pub storing-counted : (m : List ℕ) (at : ℕ) → Storing text base m₀ m at → Counted (lines at (drop at text))
+  storing-counted m at g = go (lines at (drop at text)) refl
+    where
+      go : (ls : List Line) → lines at (drop at text) ≡ ls → Counted (lines at (drop at text))
+      go [] e = subst Counted (sym e) tt
+      go (l ∷ ls) e =
+          let to : ℕ = l .place + length (l .chars) in
+          let x : Next text at (l .place) to = next-is text at (l .place) to (storing-inside text base m₀ m at g) (ap found (sym e)) in
+          let r : Readable (part text (l .place) to) base (length m) = readable (part text (l .place) to) base (length m) (storing-turn m at (l .place) to g x .placeable) in
+          let c : length (part text (l .place) to) ≡ 4 + 2 * byteOf (getD (part text (l .place) to) 2 0) (getD (part text (l .place) to) 3 0)
+          = omega (arith, r .fields .long, r .fields .count-is) in
+          subst Counted (sym (x .is)) c

@@ -50,7 +50,7 @@ pub fn store_all(table: &[u8; 256], text: &[u8], base: usize, memory: &mut [u8])
 {
     let mut at: usize = 0;
     loop {
-        let found = reader::next_record(text, at);
+        let found = reader::next_counted(table, text, at);
         let Found::At { from, to } = found else {
             return;
         };

@@ -4,7 +4,7 @@ use Prim.Native.Nat.{_-_}
 use native.Mathlib.Omega.{arith}
 use lib.ListN.{length}
 use Rattle.reader.proofs.WalkLaws.{Next, next-is}
-use Rattle.store.proofs.PassLaws.{Storing, storing-start, storing-inside, storing-end, storing-turn}
+use Rattle.store.proofs.PassLaws.{Storing, storing-start, storing-inside, storing-end, storing-turn, storing-counted}
 use borrow.Author.Needs.{needs}
 use Rattle.store.proofs.store_all.Statement.{statement}
 use Rattle.store.proofs.store_all.Tie as tie
@@ -19,13 +19,15 @@ abbrev μ-loop : tie.MeasureT-loop
 next-at : (c : tie.After-found Inv-loop μ-loop) → Next (c .before .before .before .before .before .before .args .text .now) (c .before .before .before .loop .at) (c .found .given .0 .0) (c .found .given .0 .1 .0)
 next-at c =
     let l = c .before .before .before in
-    next-is _ _ _ _ (storing-inside _ _ _ _ _ (l .loop .inv .1)) (sym (c .found .given .1) ∙ c .before .before .next-record .ensures)
+    next-is _ _ _ _ (storing-inside _ _ _ _ _ (l .loop .inv .1)) (sym (c .found .given .1) ∙ c .before .before .next-counted .ensures)
 
 loop-holds : tie.Need-loop-holds Inv-loop μ-loop
 loop-holds c = (refl, storing-start _ _ _)
 
-next-record-requires : tie.Need-next-record-requires Inv-loop μ-loop
-next-record-requires c κs = storing-inside _ _ _ _ _ (c .loop .inv .1)
+next-counted-requires : tie.Need-next-counted-requires Inv-loop μ-loop
+next-counted-requires c κs =
+    let s = c .before .before .before in
+    (s .pre .0, storing-inside _ _ _ _ _ (c .loop .inv .1), storing-counted _ _ _ (s .pre .1) _ _ (c .loop .inv .1))
 
 enum-known-found : tie.Need-enum-known-found Inv-loop μ-loop
 enum-known-found c = search needs
@@ -40,7 +42,7 @@ returns : tie.Need-returns Inv-loop μ-loop
 returns c =
     let l = c .before .before .before in
     let s = l .before .before .before in
-    storing-end _ _ _ (s .pre .1) _ _ (l .loop .inv .1) (sym (c .enum-told .given .1) ∙ c .before .before .next-record .ensures)
+    storing-end _ _ _ (s .pre .1) _ _ (l .loop .inv .1) (sym (c .enum-told .given .1) ∙ c .before .before .next-counted .ensures)
 
 sub-store-record : tie.Need-sub-store-record Inv-loop μ-loop
 sub-store-record c = omega (arith, next-at (c .before .before) .some-chars)
@@ -80,7 +82,7 @@ store-all-spec =
     Inv-loop
     μ-loop
     loop-holds
-    next-record-requires
+    next-counted-requires
     enum-known-found
     enum-told
     same-length
