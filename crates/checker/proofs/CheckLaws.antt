@@ -74,6 +74,7 @@ module _ (text : List ℕ) (base size : ℕ) (marks : List ℕ) (n : State) (at 
   abbrev whole : Outcome
   whole = placed base (blank size) (plan text)
 
+  -- no record is left, and none was a terminator
   pub row-14 : (marks′ : List ℕ) → Nothing ≡ found (lines at (drop at text)) → Told whole (Refused (refusal 14 (n .number) (length text))) marks′
   row-14 marks′ q = tell _ whole marks′ (walk-none text base size (g .img) s at (g .walk) q)
 
@@ -104,6 +105,7 @@ module _ (text : List ℕ) (base size : ℕ) (marks : List ℕ) (n : State) (at 
       pub room : (10 ≤ to - from) × (2 * count + 10 ≤ to - from)
       room = (omega (arith, r .fields .long, chars-long, r .small .2), omega (arith, r .fields .long, chars-long, r .small .2, r .len))
 
+      -- a record that was read has a known type
       pub kind-known : isKnown (kindOf kind) ≡ true
       kind-known = ap isKnown (r .known-is)
 
@@ -114,6 +116,7 @@ module _ (text : List ℕ) (base size : ℕ) (marks : List ℕ) (n : State) (at 
             subst (Says s a (r .ds) step) (sym (ap (judged s) (r .is)))
             (judge-says s (r .k) a (r .ds) step (q ∙ (λ i. asStep (judge (stateWith [] n) (known (r .known-is i)) a (replicate (sym (r .len) i) 0)))))
 
+        -- rows 8 to 11
         pub told-refused : (marks′ : List ℕ) (reason : ℕ) → step ≡ Refuse reason → Told whole (Refused (refusal reason (n .number + 1) from)) marks′
         told-refused marks′ reason e =
             let y : judged s (read chars) ≡ by-row reason = subst (λ (z : Step). Says s a (r .ds) z (judged s (read chars))) e said in
@@ -126,6 +129,7 @@ module _ (text : List ℕ) (base size : ℕ) (marks : List ℕ) (n : State) (at 
             let y : Says s a (r .ds) (Finish m) (judged s (read chars)) = subst (λ (z : Step). Says s a (r .ds) z (judged s (read chars))) e said in
             omega (arith, y .2 .number, g .few .0, room .0, x .low, x .some-chars)
 
+        -- behind a terminator: row 2, or the end
         pub told-ended : (m : State) → step ≡ Finish m → (marks′ : List ℕ) → marks′ ≡ marks → Told whole (endedAs m a (lines to (drop to text))) marks′
         told-ended m e marks′ same =
             let y : Says s a (r .ds) (Finish m) (judged s (read chars)) = subst (λ (z : Step). Says s a (r .ds) z (judged s (read chars))) e said in
@@ -159,12 +163,14 @@ module _ (text : List ℕ) (base size : ℕ) (marks : List ℕ) (n : State) (at 
           row-is : row ≡ claimRow base (marksOf (g .img)) a (length (r .ds))
           row-is = c ∙ (λ i. claimRow base (g .marks-are i) a (sym (r .len) i))
 
+          -- rows 12 and 13
           pub told-claim : (marks′ : List ℕ) → (row ≡ 0 → ⊥) → Told whole (Refused (refusal row (n .number + 1) from)) marks′
           told-claim marks′ z =
               tell _ whole marks′ (ap (λ (i : ℕ). refused (refusal row i from)) (add-one (n .number))
               ∙ sym (claim-refused base (g .img) a (r .ds) row (suc (n .number)) from (scan (length text) (stateWith (put-said .0) m) (lines to (drop to text))) row-is z)
               ∙ walk-store text base size (g .img) s at (g .walk) from to x (stateWith (put-said .0) m) a (r .ds) (put-said .1))
 
+          -- its cells are claimed, and the walk goes on
           pub going-put : (marks′ : List ℕ) → row ≡ 0 → marks′ ≡ claimed base marks a count → Going text base size marks′ m to
           going-put marks′ z d =
               let granted : 0 ≡ claimRow base (marksOf (g .img)) a (length (r .ds)) = sym z ∙ row-is in

@@ -52,6 +52,7 @@ module _ (W : Window) (text out : List ℕ) where
   abbrev pub Answers : Converted → List ℕ → Type 0
   Answers r out′ = (r ≡ converted W text (length out)) × (out′ ≡ outputOf out W text)
 
+  -- the load's refusal is the answer, and nothing is written
   pub load-refused : (f : Refusal) → f ≡ loaded W text .refusal → (f .reason ≡ 0 → ⊥) → Answers (Refused f) out
   load-refused f e z = go (load W text) e
     where
@@ -66,6 +67,7 @@ module _ (W : Window) (text out : List ℕ) where
         let l : (s : Summary) × (img : Image) × (load W text ≡ accepted s img) = accepted-is W text a in
         (q (l .0) (l .1) ∙ (λ i. convertedBy (sym (l .2) i) (is i)), m ∙ (λ i. outputBy out (sym (l .2) i) (is i)))
 
+    -- the write's refusal is the answer
     pub write-refused : (f : Refusal) (out′ : List ℕ) → f ≡ writeAnswer w .refusal → (f .reason ≡ 0 → ⊥) → out′ ≡ outputAfter out w → Answers (Refused f) out′
     write-refused f out′ e z m = by-write (Refused f) out′ (λ s img. go s img w e) m
       where
@@ -73,6 +75,7 @@ module _ (W : Window) (text out : List ℕ) where
         go s img (declined g) q = ap Refused q
         go s img (wrote t) q = absurd (z (ap (λ (x : Refusal). x .reason) q))
 
+    -- the text's length is the answer
     pub text-written : (n : ℕ) (out′ : List ℕ) → writeAnswer w .refusal .reason ≡ 0 → n ≡ writeAnswer w .length → out′ ≡ outputAfter out w → Answers (Text n) out′
     text-written n out′ z e m = by-write (Text n) out′ (λ s img. go s img w z e (subst Reasoned (sym is) (write-reasoned _ _ _ (length out) .got))) m
       where

@@ -17,37 +17,44 @@ use Rattle.hex.proofs.DigitLaws.{value-small}
 
 -- ---- ranges
 
+-- a character from low to high is in the range
 pub inside : (low high c : ℕ) → low ≤ c → c ≤ high → between low high c ≡ true
 unfolding between
 inside low high c l h = rw (le-leb low c l, le-leb c high h)
 
+-- a character below low is not in the range
 pub under : (low high c : ℕ) → c < low → between low high c ≡ false
 unfolding between
 under low high c l = rw (lt-leb low c l)
 
+-- a character above high is not in the range
 pub over : (low high c : ℕ) → high < c → between low high c ≡ false
 unfolding between
 over low high c l = rw (lt-leb c high l) (and-false (leb low c))
 
--- a digit of each range, and no digit
+-- for 0 to 9 the value is the character less 48
 pub decimal : (c : ℕ) → between 48 57 c ≡ true → c - 48 ≡ digitOr16 c
 unfolding digitOr16 isHex value
 decimal c p = rw p
 
+-- for A to F the value is the character less 55
 pub capital : (c : ℕ) → between 48 57 c ≡ false → between 65 70 c ≡ true → c - 55 ≡ digitOr16 c
 unfolding digitOr16 isHex value
 capital c p q = rw (p, q)
 
+-- for a to f the value is the character less 87
 pub letter : (c : ℕ) → between 48 57 c ≡ false → between 65 70 c ≡ false → between 97 102 c ≡ true → c - 87 ≡ digitOr16 c
 unfolding digitOr16 isHex value
 letter c p q r = rw (p, q, r)
 
+-- for a character of none of the three ranges it is 16
 pub no-digit : (c : ℕ) → between 48 57 c ≡ false → between 65 70 c ≡ false → between 97 102 c ≡ false → 16 ≡ digitOr16 c
 unfolding digitOr16 isHex value
 no-digit c p q r = rw (p, q, r)
 
 -- ---- what an entry says
 
+-- an entry is below 16 exactly where the character is a hex digit
 pub entry-digit : (c : ℕ) → ltb (digitOr16 c) 16 ≡ isHex c
 unfolding digitOr16
 entry-digit c = by-test (isHex c) (λ e. rw e (lt-ltb (value c) 16 (value-small c))) (λ e. rw e)
@@ -61,6 +68,7 @@ value-none c h =
     never : true ≡ false → ⊥
     never q = let z : _≡_ {A = ℕ} 0 1 = cc in omega arith
 
+-- an entry modulo 16 is the value: 16 becomes 0 where there is no digit
 pub entry-value : (c : ℕ) → digitOr16 c % 16 ≡ value c
 unfolding digitOr16
 entry-value c =
@@ -73,6 +81,7 @@ table-at f i zero k h = absurd (not-suc-le-zero h)
 table-at f i (suc n) zero h = ap f (sym (add-zero i))
 table-at f i (suc n) (suc k) h = table-at f (suc i) n k (le-of-suc-le-suc h) ∙ ap f (suc-add i k ∙ sym (add-suc i k))
 
+-- the table has at c the value of c, or 16 where c is no digit
 pub digit-at : (c : ℕ) → c < 256 → getD digitTable c 0 ≡ digitOr16 c
 unfolding digitTable
 digit-at c h = table-at digitOr16 0 256 c h ∙ ap digitOr16 (zero-add c)
@@ -87,6 +96,7 @@ length-table : (f : ℕ → ℕ) (i n : ℕ) → length (tableFrom f i n) ≡ n
 length-table f i zero = refl
 length-table f i (suc n) = ap suc (length-table f (suc i) n)
 
+-- one entry more is filled in: a turn of `digit_table`
 pub table-more : (d : List ℕ) (i : ℕ) → i < length d
     → set (tableFrom digitOr16 0 i ++ drop i d) i (digitOr16 i) ≡ tableFrom digitOr16 0 (i + 1) ++ drop (i + 1) d
 table-more d i h =

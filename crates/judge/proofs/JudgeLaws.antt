@@ -17,7 +17,7 @@ use Rattle.srec.specs.Scan.{State as ScanState, Step as ScanStep, by-row, row8,
 use Rattle.srec.specs.Scan.Step.{refuse, pass, put, finish}
 use Rattle.hex.proofs.TestLaws.{by-test, Of, either}
 use Rattle.reader.specs.Records.{widthOr0}
-use Rattle.reader.proofs.KindLaws.{Known, known-kind}
+use Rattle.reader.proofs.KindLaws.{Known, known-kind, type-of-kind}
 use Rattle.judge.specs.declared.State.{State}
 use Rattle.judge.specs.declared.Step.{Step}
 use Rattle.judge.specs.declared.Step.the-variants.{Refuse, Pass, Put, Finish}
@@ -25,6 +25,7 @@ use Rattle.judge.specs.Steps.{numbers, stateWith, asStep}
 
 -- ---- kinds by their character
 
+-- a known type has a kind
 pub some-kind : (c : ℕ) → isKnown (kindOf c) ≡ true → (k : Kind) × (kindOf c ≡ some k)
 some-kind c h = go (kindOf c) refl
   where
@@ -51,14 +52,12 @@ sort S5 c e l h =
 sort (End w) c e l h =
     record { s0 = λ q. absurd (omega arith); s5 = λ q. absurd (omega arith); data-is = λ n m q. absurd (omega arith); end-is = λ q. refl; low = l; high = h }
 
+-- what the type character says of a known kind
 pub sort-of : (c : ℕ) → isKnown (kindOf c) ≡ true → Sort c (widthOr0 (kindOf c)) (known (kindOf c))
 sort-of c h =
     let k : (k : Kind) × (kindOf c ≡ some k) = some-kind c h in
     let t : Known c (width (k .0)) = known-kind c (k .0) (k .1) in
-    subst (λ (o : Option Kind). Sort c (widthOr0 o) (known o)) (sym (k .1)) (sort (k .0) c (ap typeOf (same (sym (k .1) ∙ t .is)) ∙ t .type-is) (t .low) (t .high))
-  where
-    same : {x y : Kind} → some x ≡ some y → x ≡ y
-    same e = cc
+    subst (λ (o : Option Kind). Sort c (widthOr0 o) (known o)) (sym (k .1)) (sort (k .0) c (type-of-kind c (k .0) (k .1)) (t .low) (t .high))
 
 -- ---- each answer of `judge`
 
@@ -71,18 +70,22 @@ module _ (n : State) (k : Kind) (a count : ℕ) where
   abbrev next : State
   next = record { number = n .number + 1; records = n .records; cells = n .cells; width = n .width }
 
+  -- an S0 that is not the first record
   pub row-8 : k ≡ S0 → (n .number ≡ 0 → ⊥) → Refuse 8 ≡ taken
   unfolding judge row8
   row-8 e z = rw (e, ne-eqb (n .number) 0 z)
 
+  -- an S0 that is the first record
   pub passed-s0 : k ≡ S0 → n .number ≡ 0 → Pass next ≡ taken
   unfolding judge row8
   passed-s0 e z = rw (e, eq-eqb (n .number) 0 z, add-one)
 
+  -- an S5 with another number
   pub row-10 : k ≡ S5 → (a ≡ n .records → ⊥) → Refuse 10 ≡ taken
   unfolding judge row10
   row-10 e z = rw (e, ne-eqb a (n .records) z)
 
+  -- an S5 with the right number
   pub passed-s5 : k ≡ S5 → a ≡ n .records → Pass next ≡ taken
   unfolding judge row10
   passed-s5 e z = rw (e, eq-eqb a (n .records) z, add-one)
@@ -91,22 +94,27 @@ module _ (n : State) (k : Kind) (a count : ℕ) where
   abbrev pub Other : ℕ → Type 0
   Other w = (k ≡ Data w) ⊎ (k ≡ End w)
 
+  -- neither S0 nor S5: data or a terminator
   pub other : (c : ℕ) {w : ℕ} → Sort c w k → (c ≡ 48 → ⊥) → (c ≡ 53 → ⊥) → Other w
   other c t z f = by-test (ltb 53 c) (λ e. inr (t .end-is (ltb-true 53 c e))) (λ e. inl (t .data-is z f (ltb-false 53 c e)))
 
+  -- another width than the first data record
   pub row-9 : (w : ℕ) → Other w → row9 (n .width) w ≡ true → Refuse 9 ≡ taken
   unfolding judge row9
   row-9 w (inl e) z = rw (e, z)
   row-9 w (inr e) z = rw (e, z)
 
+  -- a terminator of the right width
   pub finished : (w : ℕ) → k ≡ End w → row9 (n .width) w ≡ false → Finish next ≡ taken
   unfolding judge row9
   finished w e z = rw (e, z, add-one)
 
+  -- the data passes the end of the width
   pub row-11 : (w : ℕ) → k ≡ Data w → row9 (n .width) w ≡ false → 2 ^ (8 * w) < a + count → Refuse 11 ≡ taken
   unfolding judge row9 row11
   row-11 w e z l = rw (e, z, length-replicate, lt-ltb (2 ^ (8 * w)) (a + count) l)
 
+  -- data of the right width, within it
   pub stored : (w : ℕ) → k ≡ Data w → row9 (n .width) w ≡ false → a + count ≤ 2 ^ (8 * w)
       → Put (record { number = n .number + 1; records = n .records + 1; cells = n .cells + count; width = w }) ≡ taken
   unfolding judge row9 row11
@@ -114,6 +122,7 @@ module _ (n : State) (k : Kind) (a count : ℕ) where
 
 -- ---- the numbers decide the step
 
+-- header and data bytes do not matter to the step
 pub judge-numbers : (s : ScanState) (k : Kind) (a : ℕ) (ds : List ℕ)
     → asStep (judge (stateWith [] (numbers s)) k a (replicate (length ds) 0)) ≡ asStep (judge s k a ds)
 unfolding judge row8 row9 row10 row11
@@ -162,6 +171,7 @@ says s a ds (pass u) h = (u .header, refl, h)
 says s a ds (put u b bs) h = (u .header, (λ i. put u (h .0 i) (h .1 i)), h .2)
 says s a ds (finish u e) h = (u .header, ap (finish u) (h .0), h .1)
 
+-- the answer of `judge` says what the definitions' step is
 pub judge-says : (s : ScanState) (k : Kind) (a : ℕ) (ds : List ℕ) (r : Step)
     → r ≡ asStep (judge (stateWith [] (numbers s)) k a (replicate (length ds) 0)) → Says s a ds r (judge s k a ds)
 judge-says s k a ds r e =

@@ -22,6 +22,7 @@ use Rattle.store.specs.Stores.{Accepts}
 use Rattle.store.specs.Headers.{firstHeader}
 use Rattle.store.proofs.HeaderLaws.{header-first}
 
+-- the outcome of a load, by what its caller lends
 abbrev pub outcome : ℕ → List ℕ → List ℕ → List ℕ → Outcome
 outcome base memory marks text = load (windowOf base memory marks) text
 
@@ -36,6 +37,7 @@ answered-refused memory marks o f e r q marks′ m = rw e (q, (refl, m))
 
 -- ---- marks that were cleared
 
+-- cleared marks are as many zeros as there are marks
 pub cleared-is : (n : ℕ) (xs : List ℕ) → xs ≡ replicate n 0 → xs ≡ replicate (length xs) 0
 cleared-is n xs e = e ∙ ap (λ (k : ℕ). replicate k 0) (sym (ap length e ∙ length-replicate n 0))
 
@@ -45,6 +47,7 @@ cleared-again n xs ys zs e l q = q ∙ ap (λ (k : ℕ). replicate k 0) (l ∙ a
 
 -- ---- what the checking pass told
 
+-- a refusal of the check is the outcome's
 pub told-no : (o : Outcome) (f : Refusal) (marks : List ℕ) → Told o (Refused f) marks → o ≡ refused f
 told-no (refused g) f marks t = ap refused (same (sym t))
   where
@@ -61,6 +64,7 @@ pub record Yes (o : Outcome) (e r c : ℕ) (marks : List ℕ) : Type 0 where
   pub cells : c ≡ sum .cells
   pub marks-are : marks ≡ marksOf img
 
+-- an accepted text's numbers and marks are the outcome's
 pub told-yes : (o : Outcome) (e r c : ℕ) (marks : List ℕ) → Told o (Accepted e r c) marks → Yes o e r c marks
 told-yes (refused g) e r c marks t = absurd (let z : _≡_ {A = ℕ} 0 1 = cc in omega arith)
 told-yes (accepted s img) e r c marks t =
@@ -73,10 +77,12 @@ module _ (base : ℕ) (memory marks text cleared : List ℕ) (kept : cleared ≡
   same-length : length cleared ≡ length marks
   same-length = ap length kept ∙ length-replicate (length marks) 0
 
+  -- marks and memory differ in length
   pub row-1-lengths : (length cleared ≡ length memory → ⊥) → outcome base memory marks text ≡ refused (refusal 1 0 0)
   unfolding load row1
   row-1-lengths h = rw (ne-eqb (length marks) (length memory) (λ e. h (same-length ∙ e)))
 
+  -- the window passes 2^32
   pub row-1-reach : length cleared ≡ length memory → 4294967296 - base < length memory → outcome base memory marks text ≡ refused (refusal 1 0 0)
   unfolding load row1
   row-1-reach e h = rw (eq-eqb (length marks) (length memory) (sym same-length ∙ e), lt-ltb (2 ^ 32) (base + length memory) (omega arith))
@@ -90,6 +96,7 @@ module _ (base : ℕ) (memory marks text cleared : List ℕ) (kept : cleared ≡
     pub whole-is : placed base (blank (length cleared)) (plan text) ≡ outcome base memory marks text
     whole-is = ap (λ (n : ℕ). placed base (blank n) (plan text)) e ∙ sym is-placed
 
+    -- what the check has accepted can be stored
     pub accepts : (x r c : ℕ) (marks′ : List ℕ) → Told (placed base (blank (length cleared)) (plan text)) (Accepted x r c) marks′
         → Accepts (placed base (blank (length memory)) (plan text))
     accepts x r c marks′ t =

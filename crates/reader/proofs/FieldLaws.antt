@@ -19,7 +19,7 @@ use Rattle.srec.specs.Reading.Read.{good, bad}
 use Rattle.srec.proofs.BoundLaws.{ReadOk, read-ok}
 use Rattle.reader.specs.declared.Record.the-variants.{Good, Bad}
 use Rattle.reader.specs.Records.{asRecord}
-use Rattle.reader.proofs.KindLaws.{Known, known-kind, row-6-inv}
+use Rattle.reader.proofs.KindLaws.{Known, known-kind, type-of-kind, row-6-inv}
 
 pub record Fields (chars : List ℕ) (k : Kind) (a : ℕ) (ds : List ℕ) : Type 0 where
   pub type-known : kindOf (getD chars 1 0) ≡ some k
@@ -38,13 +38,16 @@ module _ (chars : List ℕ) where
   abbrev pub bs : List ℕ
   bs = bytes (drop 2 chars)
 
+  -- the count field
   abbrev pub count : ℕ
   count = getD bs 0 0
 
+  -- the count by its two characters
   pub count-at : 4 ≤ length chars → byteOf (getD chars 2 0) (getD chars 3 0) ≡ count
   count-at four = sym (byte-at 0 (drop 2 chars) (omega (arith, length-drop 2 chars)) ∙ rw (getD-drop, getD-drop))
 
   module _ (k : Kind) where
+    -- the address field by its characters
     pub address-at : addressIn k bs ≡ number (bytes (take (2 * width k) (drop 4 chars)))
     unfolding addressIn
     address-at =
@@ -53,6 +56,7 @@ module _ (chars : List ℕ) where
 
     -- data fill what count leaves
     module _ (long : length chars ≡ 4 + 2 * count) (least : width k + 1 ≤ count) where
+      -- how many data bytes the count leaves
       pub length-data : length (dataIn k bs) ≡ count - (width k + 1)
       unfolding dataIn
       length-data =
@@ -117,6 +121,7 @@ pub record Got (chars : List ℕ) (kind a n : ℕ) : Type 0 where
   pub fields : Fields chars k a ds
   pub small : (a < 2 ^ 32) × (n ≤ 252) × (2 ≤ width k) × (width k ≤ 4)
 
+-- a good answer of `read_record` says what was read
 pub got : (chars : List ℕ) (place kind a n : ℕ) → Good kind a n ≡ asRecord place (read chars) → Got chars kind a n
 got chars place kind a n q = go (read chars) refl
   where
@@ -131,16 +136,12 @@ got chars place kind a n q = go (read chars) refl
         let f : Fields chars k a ds = read-fields chars k a ds r in
         let t : Known (getD chars 1 0) (width k) = known-kind (getD chars 1 0) k (f .type-known) in
         let o : ReadOk (good k a ds) = subst ReadOk r (read-ok chars .got) in
-        let c : typeOf k ≡ getD chars 1 0 = ap typeOf (same (sym (f .type-known) ∙ t .is)) ∙ t .type-is in
         record {
           k = k;
           ds = ds;
           is = r;
           len = n-is;
-          known-is = ap kindOf (kind-is ∙ c) ∙ f .type-known;
+          known-is = ap kindOf (kind-is ∙ type-of-kind (getD chars 1 0) k (f .type-known)) ∙ f .type-known;
           fields = f;
           small = (o .1, omega (arith, o .0 .short), t .low, t .high);
         }
-      where
-        same : {x y : Kind} → some x ≡ some y → x ≡ y
-        same e = cc

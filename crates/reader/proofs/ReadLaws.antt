@@ -26,18 +26,22 @@ pub at-place : (place : ℕ) {reason : ℕ} {r : Read} → fault reason 0 ≡ r 
 at-place place {reason} e = ap (Bad reason) (sym (add-zero place)) ∙ ap (asRecord place) e
 
 module _ (chars : List ℕ) where
+  -- the record is too long
   pub row-3 : 514 < length chars → fault 3 0 ≡ read chars
   unfolding read row3
   row-3 h = rw (lt-ltb 514 (length chars) h)
 
+  -- it has fewer than 4 characters
   pub row-4-short : length chars ≤ 514 → length chars < 4 → fault 4 0 ≡ read chars
   unfolding read row3 row4
   row-4-short h l = rw (le-ltb 514 (length chars) h, lt-ltb (length chars) 4 l)
 
+  -- it does not begin with S
   pub row-4-letter : length chars ≤ 514 → 4 ≤ length chars → (getD chars 0 0 ≡ 83 → ⊥) → fault 4 0 ≡ read chars
   unfolding read row3 row4
   row-4-letter h l n = rw (le-ltb 514 (length chars) h, le-ltb (length chars) 4 l, ne-eqb (getD chars 0 0) 83 n)
 
+  -- its type is not in the table
   pub row-4-type : length chars ≤ 514 → 4 ≤ length chars → getD chars 0 0 ≡ 83 → kindOf (getD chars 1 0) ≡ none → fault 4 0 ≡ read chars
   unfolding read row3 row4
   row-4-type h l s n = rw (le-ltb 514 (length chars) h, le-ltb (length chars) 4 l, eq-eqb (getD chars 0 0) 83 s, n)
@@ -59,10 +63,12 @@ module _ (chars : List ℕ) where
     unfolding read row3 row4
     left = rw (le-ltb 514 (length chars) (h .short), le-ltb (length chars) 4 (h .four), eq-eqb (getD chars 0 0) 83 (h .letter), h .type-known .is)
 
+    -- a character from the third on is no digit
     pub row-5 : firstBad (drop 2 chars) < length (drop 2 chars) → fault 5 (2 + firstBad (drop 2 chars)) ≡ read chars
     unfolding row5
     row-5 l = sym (left ∙ rw (lt-ltb (firstBad (drop 2 chars)) (length (drop 2 chars)) l))
 
+    -- length, count and type do not agree
     pub row-6 : length (drop 2 chars) ≤ firstBad (drop 2 chars) → row6 k (length chars) (count chars) ≡ true → fault 6 0 ≡ read chars
     unfolding row5
     row-6 l six = sym (left ∙ rw (le-ltb (firstBad (drop 2 chars)) (length (drop 2 chars)) l, six))
@@ -84,9 +90,11 @@ module _ (chars : List ℕ) (w n : ℕ) (z : Sized chars w n) where
   abbrev all : List ℕ
   all = bs chars
 
+  -- the checksum that the record has
   abbrev pub given : ℕ
   given = byteOf (getD chars (2 + 2 * n) 0) (getD chars (2 + 2 * n + 1) 0)
 
+  -- the checksum that it should have
   abbrev pub right : ℕ
   right = 255 - sum (bytes (take (2 * n) (drop 2 chars))) % 256
 
@@ -107,9 +115,11 @@ module _ (chars : List ℕ) (w n : ℕ) (z : Sized chars w n) where
       left chars w (z .head)
       ∙ rw (le-ltb (firstBad (drop 2 chars)) (length (drop 2 chars)) (z .digits), six, check-at, sum-at, z .head .type-known .is)
 
+  -- they differ
   pub row-7 : (given ≡ right → ⊥) → fault 7 0 ≡ read chars
   row-7 e = sym (left-seven ∙ rw (ne-eqb given right e))
 
+  -- they agree: no row refuses the record
   pub good-record : given ≡ right → (place : ℕ)
       → Good (getD chars 1 0) (number (bytes (take (2 * w) (drop 4 chars)))) (n - (w + 1)) ≡ asRecord place (read chars)
   good-record e place =

@@ -22,6 +22,7 @@ pub record Walk (text : List ℕ) (base size : ℕ) (img : Image) (s : ScanState
   pub long : length img ≡ size
   pub rest : placed base img (scan (length text) s (lines at (drop at text))) ≡ placed base (blank size) (plan text)
 
+-- before the first record
 pub walk-start : (text : List ℕ) (base size : ℕ) → Walk text base size (blank size) start 0
 unfolding plan
 walk-start text base size = record { inside = zero-le; long = length-blank size; rest = refl }
@@ -45,19 +46,24 @@ module _ (text : List ℕ) (base size : ℕ) (img : Image) (s : ScanState) (at :
     turn : (x : ScanStep) → judged s (read (part text from to)) ≡ x → placed base img (onward (suc (s .number)) from go last x) ≡ whole
     turn x e = ap (λ (y : ScanStep). placed base img (onward (suc (s .number)) from go last y)) (sym e) ∙ rw (n .is) at (w .rest)
 
+    -- a record that a row of the scan refuses decides the outcome
     pub walk-refused : (f : Fault) → judged s (read (part text from to)) ≡ refuse f → refused (located (suc (s .number)) from f) ≡ whole
     walk-refused f e = turn (refuse f) e
 
+    -- a record without data for cells: the walk goes on with the same image
     pub walk-pass : (u : ScanState) → judged s (read (part text from to)) ≡ pass u → Walk text base size img u to
     walk-pass u e = record { inside = n .high; long = w .long; rest = turn (pass u) e }
 
+    -- behind a terminator the rest decides
     pub walk-ended : (u : ScanState) (a : Entry) → judged s (read (part text from to)) ≡ finish u a → placed base img (last u a) ≡ whole
     walk-ended u a e = turn (finish u a) e
 
+    -- the outcome is that of storing the data, and the rest
     pub walk-store : (u : ScanState) (a : ℕ) (ds : List ℕ) → judged s (read (part text from to)) ≡ put u a ds
         → placed base img (store (suc (s .number)) from a ds (go u)) ≡ whole
     walk-store u a ds e = turn (put u a ds) e
 
+    -- a data record that rows 12 and 13 let pass: the walk goes on with the filled image
     pub walk-put : (u : ScanState) (a : ℕ) (ds : List ℕ) → judged s (read (part text from to)) ≡ put u a ds
         → row12 base (length img) a (length ds) ≡ false → row13 base img a (length ds) ≡ false → Walk text base size (filled base img a ds) u to
     walk-put u a ds e twelve thirteen =

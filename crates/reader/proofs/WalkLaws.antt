@@ -18,21 +18,27 @@ use Rattle.reader.specs.Records.{leading, found, Counted}
 
 -- ---- counting line ends, and the characters before one
 
+-- no line end here: the count of line ends stops
 pub ends-stop : (t : List ℕ) (i : ℕ) → i < length t → isEnd (getD t i 0) ≡ false → leading (drop i t) ≡ 0
 ends-stop t i l e = rw (drop-cons t i 0 l, e)
 
+-- a line end here: one more
 pub ends-more : (t : List ℕ) (i : ℕ) → i < length t → isEnd (getD t i 0) ≡ true → leading (drop i t) ≡ suc (leading (drop (i + 1) t))
 ends-more t i l e = rw (drop-cons t i 0 l, e, add-one i)
 
+-- nothing is left to count
 pub ends-none : (t : List ℕ) (i : ℕ) → length t ≤ i → leading (drop i t) ≡ 0
 ends-none t i l = rw (drop-of-length-le t l)
 
+-- a line end here: the count of characters stops
 pub front-stop : (t : List ℕ) (i : ℕ) → i < length t → isEnd (getD t i 0) ≡ true → length (front (drop i t)) ≡ 0
 front-stop t i l e = rw (drop-cons t i 0 l, e)
 
+-- no line end here: one more
 pub front-more : (t : List ℕ) (i : ℕ) → i < length t → isEnd (getD t i 0) ≡ false → length (front (drop i t)) ≡ suc (length (front (drop (i + 1) t)))
 front-more t i l e = rw (drop-cons t i 0 l, e, add-one i)
 
+-- nothing is left to count
 pub front-none : (t : List ℕ) (i : ℕ) → length t ≤ i → length (front (drop i t)) ≡ 0
 front-none t i l = rw (drop-of-length-le t l)
 
@@ -80,6 +86,7 @@ module _ (text : List ℕ) (at : ℕ) where
   abbrev pub from : ℕ
   from = at + leading (drop at text)
 
+  -- behind its last character
   abbrev pub to : ℕ
   to = from + length (front (drop from text))
 
@@ -108,9 +115,11 @@ module _ (text : List ℕ) (at : ℕ) where
 
   -- ---- the two answers of `next_record`
 
+  -- only line ends are left
   pub next-nothing : length text ≤ from → Nothing ≡ found (lines at (drop at text))
   next-nothing h = rw (no-record h)
 
+  -- a record stands behind the line ends
   pub next-at : from < length text → At from to ≡ found (lines at (drop at text))
   next-at h = rw (one-record h) (ap (At from) (ap (λ (n : ℕ). from + n) (ap length chars-are)))
 
@@ -119,6 +128,7 @@ module _ (text : List ℕ) (at : ℕ) where
     pub four : from + 4 ≤ length text
     pub end-is : to ≡ from + (4 + 2 * byteOf (getD text (from + 2) 0) (getD text (from + 3) 0))
 
+  -- its end is where the count says
   pub by-count : from < length text → Counted (lines at (drop at text)) → ByCount
   by-count h k =
       let n : ℕ = to - from in
@@ -139,6 +149,7 @@ pub record Next (text : List ℕ) (at from to : ℕ) : Type 0 where
   pub high : to ≤ length text
   pub is : lines at (drop at text) ≡ record { place = from; chars = part text from to } ∷ lines to (drop to text)
 
+-- what `next_record` has found
 pub next-is : (text : List ℕ) (at f t : ℕ) → at ≤ length text → At f t ≡ found (lines at (drop at text)) → Next text at f t
 next-is text at f t l q =
     by-test (ltb (from text at) (length text)) (λ e. some e) (λ e. absurd (none (ltb-false (from text at) (length text) e)))
@@ -159,6 +170,7 @@ next-is text at f t l q =
           is = one-record text at h ∙ (λ i. record { place = sym p i; chars = part text (sym p i) (sym r i) } ∷ lines (sym r i) (drop (sym r i) text));
         }
 
+-- it has found nothing: no record is left
 pub next-none : (text : List ℕ) (at : ℕ) → Nothing ≡ found (lines at (drop at text)) → lines at (drop at text) ≡ []
 next-none text at q = go (lines at (drop at text)) q
   where

@@ -49,6 +49,7 @@ pub record Sane (ds : List ℕ) : Type 0 where
   pub bytes : Bytes ds
   pub short : length ds ≤ 252
 
+-- a good record has data, address and width within bounds, a bad one a reason
 abbrev pub ReadOk : Read → Type 0
 ReadOk (good k a ds) = Sane ds × (a < 2 ^ 32) × Wide k
 ReadOk (bad f) = 0 < f .reason
@@ -64,6 +65,7 @@ good-ok k bs w h = (
   w,
 )
 
+-- whatever the characters, the record is within bounds, or bad for a reason
 pub read-ok : (cs : List ℕ) → Of ReadOk (read cs)
 unfolding read
 read-ok cs =
@@ -121,27 +123,32 @@ scan-ok size s [] h = lit< tt
 scan-ok size s (l ∷ ls) h =
     onward-ok size (suc (s .number)) (l .place) s ls (judged s (read (l .chars))) (λ u k. scan-ok size u ls k) (judged-ok s (read (l .chars)) h (read-ok (l .chars) .got))
 
+-- the plan of any text is within bounds, and its two counts are right
 pub plan-ok : (text : List ℕ) → PlanOk 0 0 (plan text)
 unfolding plan
 plan-ok text = scan-ok (length text) start (lines 0 text) (record { bytes = tt; short = lit≤ tt })
 
 -- ---- what a plan leads to
 
+-- the data of every run are bytes
 abbrev pub AllBytes : List Run → Type 0
 AllBytes [] = Unit {0}
 AllBytes (r ∷ rs) = Bytes (r .bytes) × AllBytes rs
 
+-- a plan within bounds stores bytes
 pub stores-ok : (r c : ℕ) (p : Plan) → PlanOk r c p → AllBytes (stores p)
 stores-ok r c (store n at a ds p) h = (h .0, stores-ok (suc r) (c + length ds) p (h .1))
 stores-ok r c (stop f) h = tt
 stores-ok r c (done s) h = tt
 
+-- the bounds of a summary, and its two counts
 pub record FinalOk (s : Summary) (records cells : ℕ) (rs : List Run) : Type 0 where
   pub header : Sane (s .header)
   pub entry : s .entry < 2 ^ 32
   pub records-is : s .records ≡ records + length rs
   pub cells-is : s .cells ≡ cells + total rs
 
+-- a plan within bounds that ends well: its header, its entry and both counts
 pub final-ok : (records cells : ℕ) (p : Plan) (s : Summary) → PlanOk records cells p → final p ≡ done s → FinalOk s records cells (stores p)
 final-ok records cells (store n at a ds p) s o q =
     let k : FinalOk s (suc records) (cells + length ds) (stores p) = final-ok (suc records) (cells + length ds) p s (o .1) q in
@@ -156,6 +163,7 @@ abbrev pub Reasoned : Outcome → Type 0
 Reasoned (refused f) = 0 < f .reason
 Reasoned (accepted s img) = Unit {0}
 
+-- in any window a plan within bounds is accepted, or refused for a reason
 pub placed-reasoned : (p : Plan) (r c base : ℕ) (img : Image) → PlanOk r c p → Of Reasoned (placed base img p)
 placed-reasoned (store n at a ds p) r c base img h =
     either (row12 base (length img) a (length ds)) (record { got = lit< tt })

@@ -78,6 +78,7 @@ abbrev advance : ℕ → List Run → State → State
 advance w [] s = s
 advance w (r ∷ rs) s = advance w rs (added w r s)
 
+-- each run can be written as a data record of width w and passes row 11
 abbrev pub AllFit : ℕ → List Run → Type 0
 AllFit w [] = Unit {0}
 AllFit w (r ∷ rs) = (Fit (Data w) (r .addr) (r .bytes)) × (r .addr + length (r .bytes) ≤ 2 ^ (8 * w)) × AllFit w rs
@@ -115,6 +116,7 @@ advance-suits w (r ∷ rs) s h = advance-suits w rs (added w r s) (inr refl)
 
 -- ---- the whole text
 
+-- a number of at most 65,535 can be written as an S5
 pub count-fit : (n : ℕ) → n ≤ 65535 → Fit S5 n []
 unfolding kindOf isEnd
 count-fit n h = record { known = refl; plain = refl; reach = omega arith; bytes = tt; short = lit≤ tt; dataless = λ e. refl }
@@ -135,6 +137,7 @@ tail-gives size s w e n q h u at =
     (count-fit (s .records) (rw q at (leb-true n 65535 t))) (end-gives size (counted s) w e h u) at))
     (λ t. rw t (end-gives size s w e h u at))
 
+-- the written text asks for its runs and ends with its header, entry and counts
 pub text-gives : (size w : ℕ) (rs : List Run) (header : List ℕ) (entry : ℕ) → Writable w rs header entry
     → Gives (scan size start (lines 0 (line S0 0 header (dataLines w rs (countLine (length rs) (line (End w) entry [] [])))))) rs
     (done (record { header = header; entry = entry; records = length rs; cells = total rs }))

@@ -29,6 +29,7 @@ record Carries (n : ℕ) (h₀ : List ℕ) (rs : List Run) (e : Entry) (h : List
   first : h₀ ≡ [] → s .header ≡ h
 
 module _ (t : Summary) where
+  -- a plan that stops is not one that is done
   pub no-stop : (f : Refusal) → stop f ≡ done t → ⊥
   no-stop f q = let z : _≡_ {A = ℕ} 0 1 = cc in omega arith
 
@@ -104,6 +105,7 @@ pub record Content (text : List ℕ) (t : Summary) : Type 0 where
   pub entry : t .entry ≡ textEntry text
   pub header : t .header ≡ textHeader text
 
+-- an accepted plan has the stores, entry and header of its text's records
 pub content : (text : List ℕ) (t : Summary) → final (plan text) ≡ done t → Content text t
 unfolding plan
 content text t q =

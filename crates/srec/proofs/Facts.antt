@@ -34,12 +34,14 @@ ones-cells a [] = refl
 ones-cells a (none ∷ img) = ones-cells (suc a) img
 ones-cells a (some b ∷ img) = ap suc (ones-cells (suc a) img)
 
+-- an accepted load counts as many cells as it leaves marks that are 1
 pub cells-are-marks : Cells-are-marks
 cells-are-marks W t h =
     let l : (s : Summary) × (img : Image) × (load W t ≡ accepted s img) = accepted-is W t h in
     let b : Behind W t (l .0) (l .1) = load-inv W t (l .0) (l .1) (l .2) in
     rw (l .2) (b .count ∙ sym (ones-cells (W .base) (l .1)))
 
+-- an accepted load counts the data records of its text
 pub records-are-counted : Records-are-counted
 records-are-counted W t h =
     let l : (s : Summary) × (img : Image) × (load W t ≡ accepted s img) = accepted-is W t h in
@@ -73,6 +75,7 @@ module _ (t : Summary) where
   true-counts size [] u q = tt
   true-counts size (l ∷ ls) u q = counted size (suc (u .number)) (l .place) u ls (true-counts size ls) (read (l .chars)) q
 
+-- in an accepted text every S5 has the number of data records before it
 pub s5-is-true : S5-is-true
 unfolding plan
 s5-is-true W t h =
@@ -81,6 +84,7 @@ s5-is-true W t h =
 
 -- ---- the canonical text
 
+-- the canonical text has at least one character, whatever the window
 pub never-empty : Never-empty
 unfolding textOf canonical line recordText
 never-empty W header entry = omega arith

@@ -15,6 +15,7 @@ use Rattle.srec.specs.Kinds.{Kind}
 use Rattle.srec.specs.Writing.{recordText}
 use Rattle.srec.proofs.RecordLaws.{Fit, record-digits}
 
+-- none of the characters is CR or LF
 abbrev pub NoEnd : List ℕ → Type 0
 NoEnd [] = Unit {0}
 NoEnd (c ∷ cs) = (isEnd c ≡ false) × NoEnd cs
@@ -47,10 +48,12 @@ pairs-free : (bs : List ℕ) → Bytes bs → NoEnd (digitsOf bs)
 pairs-free [] h = tt
 pairs-free (b ∷ bs) h = (no-end-digit (b / 16) (high-small b (h .0)), (no-end-digit (b % 16) (low-small b), pairs-free bs (h .1)))
 
+-- a written record has no CR and no LF
 pub record-free : (k : Kind) (a : ℕ) (ds : List ℕ) → Fit k a ds → NoEnd (recordText k a ds)
 unfolding isEnd
 record-free k a ds h = record-digits k a ds h NoEnd (λ bs b. (refl, (h .plain, pairs-free bs b)))
 
+-- a written record is not empty
 pub record-some : (k : Kind) (a : ℕ) (ds : List ℕ) → 0 < length (recordText k a ds)
 unfolding recordText
 record-some k a ds = omega arith

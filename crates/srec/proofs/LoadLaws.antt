@@ -98,6 +98,7 @@ window-inv W text s img t q =
       };
     }
 
+-- what `Behind` lists holds of every accepted load
 pub load-inv : (W : Window) (text : List ℕ) (s : Summary) (img : Image) → load W text ≡ accepted s img → Behind W text s img
 unfolding load
 load-inv W text s img q =
@@ -112,6 +113,7 @@ unfolding load
 load-reasoned W text =
     either (row1 W) (record { got = lit< tt }) (placed-reasoned (plan text) 0 0 (W .base) (blank (length (W .memory))) (plan-ok text))
 
+-- a load with refusal number 0 has a summary and an image
 pub accepted-is : (W : Window) (text : List ℕ) → Accepted W text → (s : Summary) × (img : Image) × (load W text ≡ accepted s img)
 accepted-is W text h = go (load W text) (load-reasoned W text .got) h
   where
@@ -125,9 +127,11 @@ accepted-is W text h = go (load W text) (load-reasoned W text .got) h
 abbrev pub widthOf : List Cell → Entry → ℕ
 widthOf cs e = widthFor (largest e cs)
 
+-- this width holds the largest address, entry included
 pub holds-all : (cs : List Cell) (h : List ℕ) (e : Entry) → Storable cs h e → largest e cs < 2 ^ (8 * widthOf cs e)
 holds-all cs h e m = wide-enough (largest e cs) (largest-below e (2 ^ 32) cs (m .entry) (λ A B k. m .small A B k .0))
 
+-- what is storable can be written with this width
 pub writable : (cs : List Cell) (h : List ℕ) (e : Entry) → Storable cs h e → Writable (widthOf cs e) (runs cs) h e
 writable cs h e m =
     let w : ℕ = widthOf cs e in
@@ -143,6 +147,7 @@ writable cs h e m =
 abbrev pub summaryOf : List Cell → List ℕ → Entry → Summary
 summaryOf cs h e = record { header = h; entry = e; records = length (runs cs); cells = length cs }
 
+-- the plan of a canonical text asks for its runs and ends with this summary
 pub canonical-gives : (cs : List Cell) (h : List ℕ) (e : Entry) → Storable cs h e
     → Gives (plan (canonical cs h e)) (runs cs) (done (summaryOf cs h e))
 unfolding plan canonical
@@ -186,6 +191,7 @@ write-behind W text s img room b r =
       image-after (W .memory) img (b .long),
     )
 
+-- with room enough, the canonical text of the loaded cells is written
 pub writtenAfter-is : (W : Window) (text : List ℕ) (s : Summary) (img : Image) (room : ℕ) → load W text ≡ accepted s img
     → Enough W text room → writtenAfter W text room ≡ wrote (canonical (cells (W .base) img) (s .header) (s .entry))
 writtenAfter-is W text s img room q =

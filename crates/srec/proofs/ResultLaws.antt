@@ -20,7 +20,6 @@ use Rattle.window.proofs.OrderLaws.{rising-cells, in-low}
 use Rattle.window.proofs.FillLaws.{filled-none, left, middle, right, length-left, length-middle, cut, Between, between}
 use Rattle.window.proofs.RoomLaws.{filled-length, not-row12}
 use Rattle.hex.proofs.TestLaws.{by-test, T-true, true-T}
-use Rattle.srec.specs.Scan.{plan}
 use Rattle.srec.specs.Table.{Result}
 use Rattle.srec.proofs.TableTests.{meets, result, asked}
 use Rattle.srec.specs.Table.Result.{fails, passes}
@@ -92,6 +91,7 @@ module _ (base : ℕ) (img : Image) (a n : ℕ) (taken : List Cell) (low : base 
 
 -- ---- a plan in a window that holds what it asks for
 
+-- every cell of the list is in the window
 abbrev pub Inside : ℕ → ℕ → List Cell → Type 0
 Inside base size cs = (A B : ℕ) → In A B cs → (base ≤ A) × (A < base + size)
 
@@ -139,10 +139,12 @@ sees-more base img a ds taken b s A B =
           (λ l. in-right A B (b .low) (own ++ b .high) (in-left A B own (b .high) l)) (in-cases A B taken own k)),
     )
 
+-- an outcome is the refusal of a result, or has its values and its cells
 abbrev pub Leads : ℕ → Result → Outcome → Type 0
 Leads base (fails f) o = o ≡ refused f
 Leads base (passes h e r cs) o = (img : Image) × (c : ℕ) × (o ≡ accepted (record { header = h; entry = e; records = r; cells = c }) img) × Sees base img cs
 
+-- in a window that holds its cells, placing a plan leads to its result
 pub placed-leads : (base : ℕ) (img : Image) (taken : List Cell) (p : Plan) → Inside base (length img) (asked p) → Sees base img taken
     → Leads base (result taken p) (placed base img p)
 placed-leads base img taken (store n at a ds p) f s =

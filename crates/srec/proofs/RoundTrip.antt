@@ -58,6 +58,7 @@ module _ (W₁ W₂ : Window) (t₁ t₂ : List ℕ) (s₁ s₂ : Summary) (img�
         sym (b₁ .entry) ∙ k .2 ∙ b₂ .entry,
       )
 
+-- statement 1 (FORMAT 8.2): equal texts are written exactly where the content is equal
 pub equal-content : Equal-content
 equal-content W₁ W₂ t₁ t₂ room₁ room₂ a₁ a₂ n₁ n₂ =
     let l₁ : (s : Summary) × (img : Image) × (load W₁ t₁ ≡ accepted s img) = accepted-is W₁ t₁ a₁ in
@@ -159,6 +160,7 @@ again W W′ t s img q b a f =
       same-text = λ room n. writtenAfter-is W′ (canonical cs h e) (summaryOf cs h e) i room q′ n ∙ ap (λ x. wrote (canonical x h e)) same;
     }
 
+-- statement 2 (FORMAT 8.3): a written text gives back what the load behind it gave
 pub written-loads-back : Written-loads-back
 written-loads-back W W′ t t′ room a w allowed f =
     let o : Origin W t t′ = origin W t t′ room a w in
@@ -166,6 +168,7 @@ written-loads-back W W′ t t′ room a w allowed f =
 
 -- ---- one width, the narrowest
 
+-- statement 3 (FORMAT 8.4): one width in a written text, the narrowest that holds entry and cells
 pub narrowest-width : Narrowest-width
 narrowest-width W t t′ room a w =
     let o : Origin W t t′ = origin W t t′ room a w in

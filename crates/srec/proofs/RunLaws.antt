@@ -36,6 +36,7 @@ flat-before c [] = refl
 flat-before c (r ∷ rs) =
     by-test (joins (c .addr) (r .addr)) (λ e. rw e (rw (joins-next (c .addr) (r .addr) e .0) refl)) (λ e. rw e)
 
+-- the runs have the cells that they were made of, in the same order
 pub flat-runs : (cs : List Cell) → flat (runs cs) ≡ cs
 flat-runs [] = refl
 flat-runs (c ∷ cs) = flat-before c (runs cs) ∙ ap (λ (r : List Cell). c ∷ r) (flat-runs cs)
@@ -47,6 +48,7 @@ abbrev CellsOk : ℕ → List Cell → Type 0
 CellsOk lim [] = Unit {0}
 CellsOk lim (c ∷ cs) = (c .addr < lim) × (c .byte < 256) × CellsOk lim cs
 
+-- bounds that hold of every member hold of the list
 pub cells-ok : (lim : ℕ) (cs : List Cell) → ((A B : ℕ) → In A B cs → (A < lim) × (B < 256)) → CellsOk lim cs
 cells-ok lim [] h = tt
 cells-ok lim (c ∷ cs) h =
@@ -60,6 +62,7 @@ pub record Good (lim : ℕ) (r : Run) : Type 0 where
   pub reach : r .addr + length (r .bytes) ≤ lim
   pub bytes : Bytes (r .bytes)
 
+-- every run is so, with the same lim
 abbrev pub AllGood : ℕ → List Run → Type 0
 AllGood lim [] = Unit {0}
 AllGood lim (r ∷ rs) = Good lim r × AllGood lim rs
@@ -85,6 +88,7 @@ good-before lim c (r ∷ rs) l b h =
     )))
     (λ e. rw e (good-one lim c l b, h))
 
+-- the runs of cells that are below lim and hold bytes are all so
 pub good-runs : (lim : ℕ) (cs : List Cell) → CellsOk lim cs → AllGood lim (runs cs)
 good-runs lim [] h = tt
 good-runs lim (c ∷ cs) h = good-before lim c (runs cs) (h .0) (h .1) (good-runs lim cs (h .2))
@@ -96,21 +100,25 @@ rising-before lo c (r ∷ rs) l h =
     (λ e. rw e (l, subst (λ (k : ℕ). RisingRuns k rs) (omega (arith, joins-next (c .addr) (r .addr) e .0)) (h .1)))
     (λ e. rw e (l, (omega (arith, h .0), h .1)))
 
+-- the runs of rising cells are rising
 pub rising-runs : (lo : ℕ) (cs : List Cell) → Rising lo cs → RisingRuns lo (runs cs)
 rising-runs lo [] h = tt
 rising-runs lo (c ∷ cs) h = rising-before lo c (runs cs) (h .0) (rising-runs (suc (c .addr)) cs (h .1))
 
 -- ---- the largest address
 
+-- no cell is above the largest address
 pub in-largest : (A B e : ℕ) (cs : List Cell) → In A B cs → A ≤ largest e cs
 in-largest A B e [] h = absurd h
 in-largest A B e (c ∷ cs) (inl q) = omega (arith, q .0)
 in-largest A B e (c ∷ cs) (inr k) = omega (arith, in-largest A B e cs k)
 
+-- the entry is not above the largest address
 pub entry-largest : (e : ℕ) (cs : List Cell) → e ≤ largest e cs
 entry-largest e [] = omega arith
 entry-largest e (c ∷ cs) = omega (arith, entry-largest e cs)
 
+-- where entry and cells are below lim, so is the largest address
 pub largest-below : (e lim : ℕ) (cs : List Cell) → e < lim → ((A B : ℕ) → In A B cs → A < lim) → largest e cs < lim
 largest-below e lim [] l h = l
 largest-below e lim (c ∷ cs) l h =
@@ -124,12 +132,14 @@ unfolding widthFor
 by-width P p₂ p₃ p₄ n =
     by-test (ltb n (2 ^ 16)) (λ e. rw e p₂) (λ e. by-test (ltb n (2 ^ 24)) (λ f. rw (e, f) p₃) (λ f. rw (e, f) p₄))
 
+-- the width for a number below 2 ^ 32 holds this number
 pub wide-enough : (n : ℕ) → n < 2 ^ 32 → n < 2 ^ (8 * widthFor n)
 unfolding widthFor
 wide-enough n h =
     by-test (ltb n (2 ^ 16)) (λ e. rw e (ltb-true n (2 ^ 16) e))
     (λ e. by-test (ltb n (2 ^ 24)) (λ f. rw (e, f) (ltb-true n (2 ^ 24) f)) (λ f. rw (e, f) h))
 
+-- no narrower width of at least two bytes holds the number
 pub no-narrower : (n v : ℕ) → v < widthFor n → 2 ≤ v → n < 2 ^ (8 * v) → ⊥
 unfolding widthFor
 no-narrower n v h low k =
@@ -146,6 +156,7 @@ pub record Width (w : ℕ) : Type 0 where
   pub end-plain : isEnd (59 - w) ≡ false
   pub small : w ≤ 4
 
+-- this holds of the width for any number
 pub width-is : (n : ℕ) → Width (widthFor n)
 unfolding kindOf isEnd
 width-is =
@@ -155,6 +166,7 @@ width-is =
 
 -- ---- runs, entry and header fit records of a width
 
+-- good runs below a width's limit can be written as data records of that width
 pub all-fit : (w : ℕ) (rs : List Run) → Width w → AllGood (2 ^ (8 * w)) rs → AllFit w rs
 all-fit w [] h g = tt
 all-fit w (r ∷ rs) h g = (
@@ -170,10 +182,12 @@ all-fit w (r ∷ rs) h g = (
   all-fit w rs h (g .1),
 )
 
+-- an entry that a width holds can be written in its terminator
 pub end-fit : (w e : ℕ) → Width w → e < 2 ^ (8 * w) → Fit (End w) e []
 end-fit w e h l =
     record { known = h .end-known; plain = h .end-plain; reach = l; bytes = tt; short = omega (arith, h .small); dataless = λ e. refl }
 
+-- a header of at most 252 bytes can be written as an S0
 pub head-fit : (header : List ℕ) → Bytes header → length header ≤ 252 → Fit S0 0 header
 unfolding kindOf isEnd
 head-fit header b l =

@@ -12,6 +12,7 @@ use Rattle.srec.specs.Table.{Result}
 use Rattle.srec.proofs.TableTests.{sameList, sameCells, sameRefusal, sameResult, isRising}
 use Rattle.srec.specs.Table.Result.{fails, passes}
 
+-- lists of numbers that pass the test are equal
 pub same-list : (x y : List ℕ) → T (sameList x y) → x ≡ y
 same-list [] [] t = refl
 same-list [] (y ∷ ys) t = absurd t
@@ -37,6 +38,7 @@ same-refusal f g t =
     let l : T (eqb (f .ordinal) (g .ordinal)) × T (eqb (f .place) (g .place)) = and-yes (eqb (f .ordinal) (g .ordinal)) (eqb (f .place) (g .place)) (k .1) in
     λ i. record { reason = eqb→eq (f .reason) (g .reason) (k .0) i; ordinal = eqb→eq (f .ordinal) (g .ordinal) (l .0) i; place = eqb→eq (f .place) (g .place) (l .1) i }
 
+-- results that pass the test are equal
 pub same-result : (x y : Result) → T (sameResult x y) → x ≡ y
 same-result (fails f) (fails g) q = ap fails (same-refusal f g q)
 same-result (fails f) (passes h e r cs) q = absurd q
@@ -47,6 +49,7 @@ same-result (passes h e r cs) (passes h′ e′ r′ cs′) q =
     let m : T (eqb r r′) × T (sameCells cs cs′) = and-yes (eqb r r′) (sameCells cs cs′) (l .1) in
     λ i. passes (same-list h h′ (k .0) i) (eqb→eq e e′ (l .0) i) (eqb→eq r r′ (m .0) i) (same-cell-list cs cs′ (m .1) i)
 
+-- cells that pass the test are in rising order
 pub rising-of : (lo : ℕ) (cs : List Cell) → T (isRising lo cs) → Rising lo cs
 rising-of lo [] t = tt
 rising-of lo (c ∷ cs) t =

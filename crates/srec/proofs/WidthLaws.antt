@@ -31,9 +31,11 @@ module _ (cs : List Cell) (h : List ℕ) (e : Entry) (m : Storable cs h e) where
   carried : Content (canonical cs h e) (summaryOf cs h e)
   carried = content (canonical cs h e) (summaryOf cs h e) (canonical-gives cs h e m .ends)
 
+  -- the data records of the canonical text are the runs of its cells
   pub text-data : dataRecords (lines 0 (canonical cs h e)) ≡ runs cs
   text-data = sym (carried .asks) ∙ canonical-gives cs h e m .asks
 
+  -- the addressed cells of the canonical text are the cells that it was made of
   pub text-cells : (A B : ℕ) → In A B cs ↔ CellOf (canonical cs h e) A B
   text-cells A B =
       (λ k. rw text-data (in-flat A B (runs cs) .0 (rw flat-runs k)), λ k. rw flat-runs at (in-flat A B (runs cs) .1 (rw text-data at k)))
@@ -66,6 +68,7 @@ one-width cs h e m =
     (width-data w (runs cs) (countLine (length (runs cs)) last) (o .cells)
     (width-count w (length (runs cs)) last (λ at. width-line w at (End w) e [] [] (o .last) refl (λ n. tt))))
 
+-- the canonical text has one width, the narrowest that holds its entry and cells
 pub canonical-narrowest : (cs : List Cell) (h : List ℕ) (e : Entry) → Storable cs h e → Narrowest (widthOf cs e) (canonical cs h e)
 canonical-narrowest cs h e m =
     let l : largest e cs < 2 ^ (8 * widthOf cs e) = holds-all cs h e m in

@@ -22,12 +22,13 @@ use Rattle.srec.proofs.ContentLaws.{no-stop, known-header}
 use Rattle.reader.specs.declared.Record.the-variants.{Bad}
 use Rattle.reader.specs.Records.{asRecord}
 use Rattle.reader.proofs.FieldLaws.{Fields, Got}
-use Rattle.reader.proofs.KindLaws.{Known, known-kind}
+use Rattle.reader.proofs.KindLaws.{type-of-kind}
 use Rattle.srec.specs.Terms.{headerIn}
 use Rattle.store.specs.Headers.{firstHeader}
 
 -- ---- the header's array
 
+-- the array before it is filled
 abbrev pub zeros : List ℕ
 zeros = replicate 252 0
 
@@ -43,15 +44,10 @@ padding n h =
 
 -- ---- the header that a record holds
 
-sort-s0 : (c : ℕ) → kindOf c ≡ some S0 → c ≡ 48
-sort-s0 c e = let t : Known c 2 = known-kind c S0 e in sym (t .type-is) ∙ ap typeOf (same (sym (t .is) ∙ e))
-  where
-    same : {x y : Kind} → some x ≡ some y → x ≡ y
-    same q = cc
-
 no-header : (chars : List ℕ) → headerIn (read chars) [] ≡ [] → record { len = 0; bytes = zeros } ≡ headerOf (headerIn (read chars) [])
 no-header chars e = rw e refl
 
+-- a record that cannot be read has no header
 pub header-bad : (chars : List ℕ) (place reason at : ℕ) → Bad reason at ≡ asRecord place (read chars) → record { len = 0; bytes = zeros } ≡ headerOf (headerIn (read chars) [])
 header-bad chars place reason at q = no-header chars (go (read chars) q)
   where
@@ -59,16 +55,18 @@ header-bad chars place reason at q = no-header chars (go (read chars) q)
     go (good k a ds) e = absurd (let z : _≡_ {A = ℕ} 0 1 = cc in omega arith)
     go (bad f) e = refl
 
+-- nor has a record of another type
 pub header-other : (chars : List ℕ) (kind a n : ℕ) → Got chars kind a n → (kind ≡ 48 → ⊥) → record { len = 0; bytes = zeros } ≡ headerOf (headerIn (read chars) [])
 unfolding kindOf
 header-other chars kind a n r h = no-header chars (ap (λ (x : Read). headerIn x []) (r .is) ∙ go (r .k) (r .known-is))
   where
     go : (k : Kind) → kindOf kind ≡ some k → headerIn (good k a (r .ds)) [] ≡ []
-    go S0 e = absurd (h (sort-s0 kind e))
+    go S0 e = absurd (h (sym (type-of-kind kind S0 e)))
     go (Data w) e = refl
     go S5 e = refl
     go (End w) e = refl
 
+-- the data of an S0 is its header
 pub header-s0 : (chars : List ℕ) (kind a n : ℕ) → Got chars kind a n → kind ≡ 48 → (bs : List ℕ)
     → bs ≡ bytes (take (8 + 2 * n - 8) (drop 8 chars)) → record { len = n; bytes = bs ++ drop n zeros } ≡ headerOf (headerIn (read chars) [])
 unfolding kindOf
@@ -105,6 +103,7 @@ module _ (t : Summary) where
       last [] e = let k : record { header = []; entry = a; records = 0; cells = 0 } ≡ t = cc in ap (λ (x : Summary). x .header) (sym k)
       last (l ∷ ls) e = absurd (no-stop t (refusal 2 2 (l .place)) e)
 
+  -- the header of an accepted text is that of its first record
   pub header-first : (text : List ℕ) → final (plan text) ≡ done t → t .header ≡ firstHeader (lines 0 text)
   unfolding plan
   header-first text q = go (lines 0 text) q

@@ -40,13 +40,16 @@ pub record Done (text : List ℕ) (base : ℕ) (m₀ m : List ℕ) (at : ℕ) : 
   pub none-left : lines at (drop at text) ≡ []
   pub memory-is : m ≡ memoryAfter m₀ (placed base (blank (length m₀)) (plan text))
 
+-- the loop's invariant
 abbrev pub Storing : List ℕ → ℕ → List ℕ → List ℕ → ℕ → Type 0
 Storing text base m₀ m at = Walking text base m₀ m at ⊎ Done text base m₀ m at
 
+-- before the first record
 pub storing-start : (text : List ℕ) (base : ℕ) (m : List ℕ) → Storing text base m m 0
 storing-start text base m =
     inl (record { img = blank (length m); s = start; walk = walk-start text base (length m); memory-is = sym (overlaid-blank m) })
 
+-- the place is within the text
 pub storing-inside : (text : List ℕ) (base : ℕ) (m₀ m : List ℕ) (at : ℕ) → Storing text base m₀ m at → at ≤ length text
 storing-inside text base m₀ m at (inl g) = g .walk .inside
 storing-inside text base m₀ m at (inr g) = g .inside
@@ -122,6 +125,7 @@ module _ (text : List ℕ) (base : ℕ) (m₀ : List ℕ) (acc : Accepts (placed
         by-test (row9 (g .s .firstWidth) w) (λ t. absurd (not-refused (record { reason = 9; offset = 0 }) (ap (judged (g .s)) e ∙ rw t)))
         (λ t. record { placeable = tt; goes-on = end-on (more (g .s) (g .s .header)) a (ap (judged (g .s)) e ∙ rw t) })
 
+  -- one turn of the loop: the record can be stored, and what it leaves goes on
   pub storing-turn : (m : List ℕ) (at from to : ℕ) → Storing text base m₀ m at → (x : Next text at from to) → Turn m to (read (part text from to))
   storing-turn m at from to (inl g) x = turned m at from to x g (read (part text from to)) refl
   storing-turn m at from to (inr g) x = absurd (none (sym (g .none-left) ∙ x .is))

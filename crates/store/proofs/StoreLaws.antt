@@ -21,7 +21,7 @@ use Rattle.srec.specs.Reading.{Read, read}
 use Rattle.srec.specs.Reading.Read.{good, bad}
 use Rattle.srec.proofs.BoundLaws.{ReadOk, read-ok}
 use Rattle.reader.specs.Records.{widthOr0}
-use Rattle.reader.proofs.KindLaws.{Known, known-kind}
+use Rattle.reader.proofs.KindLaws.{Known, known-kind, type-of-kind}
 use Rattle.reader.proofs.FieldLaws.{Fields, read-fields}
 use Rattle.store.specs.Stores.{storedBy, Placeable}
 
@@ -38,12 +38,10 @@ pub record Readable (chars : List ℕ) (base size : ℕ) : Type 0 where
   pub small : a < 2 ^ 32
   pub placeable : Placeable base size (good k a ds)
 
+-- a record that has room was read
 pub readable : (chars : List ℕ) (base size : ℕ) → Placeable base size (read chars) → Readable chars base size
 readable chars base size p = go (read chars) refl p
   where
-    same : {x y : Kind} → some x ≡ some y → x ≡ y
-    same e = cc
-
     go : (r : Read) → read chars ≡ r → Placeable base size r → Readable chars base size
     go (bad f) e q = absurd q
     go (good k a ds) e q =
@@ -56,7 +54,7 @@ readable chars base size p = go (read chars) refl p
           ds = ds;
           is = e;
           fields = f;
-          char = ap typeOf (same (sym (f .type-known) ∙ t .is)) ∙ t .type-is;
+          char = type-of-kind (getD chars 1 0) k (f .type-known);
           low = t .low;
           high = t .high;
           small = o .1;

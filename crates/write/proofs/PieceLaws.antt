@@ -51,6 +51,7 @@ pub count-written : (n : ℕ) → n ≤ 65535 → countText n ≡ lineOf 53 2 n 
 unfolding countLine
 count-written n h = rw (le-leb n 65535 h) (line-before S5 n [] [] ∙ append-nil (lineOf 53 2 n []))
 
+-- no S5 for more than 65,535 data records
 pub count-left-out : (n : ℕ) → 65535 < n → countText n ≡ []
 unfolding countLine
 count-left-out n h = rw (lt-leb n 65535 h)
@@ -97,9 +98,11 @@ pending-more whole xs ys start at p o out out′ h d q e n =
 -- the same of a line: what `put_line` requires, and what it leaves
 module _ (whole : List ℕ) (kind w a : ℕ) (ds ys : List ℕ) (start at : ℕ) (o out : List ℕ) (h : start + length whole ≤ length o)
     (d : Pending whole (lineOf kind w a ds ++ ys) start at o out) where
+  -- the next record has room
   pub line-room : at + (7 + 2 * w + 2 * length ds) ≤ length out
   line-room = rw (← (length-line kind w a ds)) (pending-room whole (lineOf kind w a ds) ys start at o out h d)
 
+  -- behind it the rest is still to be written
   pub line-more : (p : ℕ) (out′ : List ℕ) → p ≡ at + (7 + 2 * w + 2 * length ds) → out′ ≡ over out at (lineOf kind w a ds) → length out′ ≡ length out
       → Pending whole ys start p o out′
   line-more p out′ q t l = pending-more whole (lineOf kind w a ds) ys start at p o out out′ h d (rw (length-line kind w a ds) q) t l
