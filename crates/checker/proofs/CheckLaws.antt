@@ -19,11 +19,12 @@ use Rattle.srec.specs.Kinds.{kindOf, isKnown, known, width}
 use Rattle.srec.specs.Reading.{Fault, Read, read}
 use Rattle.srec.specs.Reading.Read.{good, bad}
 use Rattle.srec.specs.Scan.{State as ScanState, by-row, judge, judged, ended, located, scan, plan}
-use Rattle.reader.specs.declared.Found.the-variants.{Nothing}
+use Rattle.lines.specs.declared.Found.the-variants.{Nothing}
 use Rattle.reader.specs.declared.Record.{Record}
 use Rattle.reader.specs.declared.Record.the-variants.{Bad}
-use Rattle.reader.specs.Records.{found, asRecord}
-use Rattle.reader.proofs.WalkLaws.{part, Next}
+use Rattle.lines.specs.Finds.{found}
+use Rattle.reader.specs.Records.{asRecord}
+use Rattle.lines.proofs.WalkLaws.{part, Next}
 use Rattle.reader.proofs.FieldLaws.{Got}
 use Rattle.judge.specs.declared.State.{State}
 use Rattle.judge.specs.declared.Step.{Step}
@@ -32,7 +33,7 @@ use Rattle.checker.specs.declared.Checked.the-variants.{Refused}
 use Rattle.judge.specs.Steps.{numbers, stateWith, asStep}
 use Rattle.checker.specs.Answers.{Told, unreadAs, endedAs}
 use Rattle.judge.proofs.JudgeLaws.{Says, judge-says}
-use Rattle.reader.proofs.TurnLaws.{Walk, walk-start, walk-none, walk-refused, walk-pass, walk-ended, walk-store, walk-put}
+use Rattle.lines.proofs.TurnLaws.{Walk, walk-start, walk-none, walk-refused, walk-pass, walk-ended, walk-store, walk-put}
 
 -- the marks show the image of a walk; the numbers are small, since each record takes its characters
 pub record Going (text : List ℕ) (base size : ℕ) (marks : List ℕ) (n : State) (at : ℕ) : Type 0 where

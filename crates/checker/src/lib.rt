@@ -1,7 +1,7 @@
 // The checking pass of a load: every refusal of a text, and the marks of the cells that it addresses.
 use judge::State;
 use judge::Step;
-use reader::Found;
+use lines::Found;
 use reader::Record;
 use window::Refusal;
 ghost use mathlib.Core.Path.{_≡_};
@@ -39,7 +39,7 @@ fn ended(text: &[u8], at: usize, state: State, entry: u32) -> Checked
     requires { ⌜ (at ≤ length (now text)) × (state .number + 1 < 2 ^ 64) ⌝ }
     ensures { λ r. ⌜ r ≡ endedAs state entry (lines at (drop at (now (text .entry)))) ⌝ }
 {
-    let found = reader::next_record(text, at);
+    let found = lines::next_record(text, at);
     match found {
         Found::At { from, to: _ } => Checked::Refused(window::refuse(2, state.number + 1, from)),
         Found::Nothing => Checked::Accepted {
@@ -58,7 +58,7 @@ pub fn check(table: &[u8; 256], text: &[u8], base: usize, marks: &mut [u8]) -> C
     let mut state = judge::start();
     let mut at: usize = 0;
     loop {
-        let found = reader::next_record(text, at);
+        let found = lines::next_record(text, at);
         let Found::At { from, to } = found else {
             return Checked::Refused(window::refuse(14, state.number, text.len()));
         };

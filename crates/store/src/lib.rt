@@ -1,5 +1,5 @@
 // The storing pass of a load, over a text that was checked: the data into memory, and the header.
-use reader::Found;
+use lines::Found;
 use reader::Record;
 use srec::Header;
 ghost use mathlib.Core.Path.{_≡_};
@@ -50,7 +50,7 @@ pub fn store_all(table: &[u8; 256], text: &[u8], base: usize, memory: &mut [u8])
 {
     let mut at: usize = 0;
     loop {
-        let found = reader::next_counted(table, text, at);
+        let found = lines::next_counted(table, text, at);
         let Found::At { from, to } = found else {
             return;
         };
@@ -89,7 +89,7 @@ pub fn header_of(table: &[u8; 256], text: &[u8]) -> Header
     requires { ⌜ now table ≡ digitTable ⌝ }
     ensures { λ r. ⌜ r ≡ headerOf (firstHeader (lines 0 (now (text .entry)))) ⌝ }
 {
-    let found = reader::next_record(text, 0);
+    let found = lines::next_record(text, 0);
     let Found::At { from, to } = found else {
         return Header {
             len: 0,

@@ -5,7 +5,7 @@ use Prim.Native.Nat.{_-_, _^_, _<_}
 use native.Mathlib.Nat.{lt-of-le-of-lt}
 use native.Mathlib.Omega.{arith}
 use lib.ListN.{length}
-use Rattle.reader.proofs.WalkLaws.{part, Next, next-is}
+use Rattle.lines.proofs.WalkLaws.{part, Next, next-is}
 use Rattle.reader.proofs.FieldLaws.{Got, got}
 use Rattle.checker.proofs.CheckLaws.{Going, going-start, part-fits, row-14, told-unread, room, kind-known, told-refused, last-few, told-ended, going-pass, told-claim, going-put}
 use borrow.Author.Needs.{needs}

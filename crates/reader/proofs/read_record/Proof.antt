@@ -13,7 +13,7 @@ use Rattle.srec.specs.Reading.{row6}
 use Rattle.reader.specs.declared.Record.the-variants.{Good, Bad}
 use Rattle.reader.specs.Records.{asRecord}
 use Rattle.reader.proofs.KindLaws.{known-type, unknown-type, row-6-inv}
-use Rattle.reader.proofs.WalkLaws.{rest}
+use Rattle.hex.proofs.PairLaws.{rest}
 use Rattle.reader.proofs.FieldLaws.{count, count-at}
 use Rattle.reader.proofs.ReadLaws.{at-place, row-3, row-4-short, row-4-letter, row-4-type, Head, row-5, row-6, Sized, row-7, good-record}
 use borrow.Author.Needs.{needs}

@@ -3,7 +3,7 @@ use mathlib.Core.Path.{_≡_, refl, sym, _∙_}
 use Prim.Native.Nat.{_-_}
 use native.Mathlib.Omega.{arith}
 use lib.ListN.{length}
-use Rattle.reader.proofs.WalkLaws.{Next, next-is}
+use Rattle.lines.proofs.WalkLaws.{Next, next-is}
 use Rattle.store.proofs.PassLaws.{Storing, storing-start, storing-inside, storing-end, storing-turn, storing-counted}
 use borrow.Author.Needs.{needs}
 use Rattle.store.proofs.store_all.Statement.{statement}

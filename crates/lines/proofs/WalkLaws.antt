@@ -8,13 +8,13 @@ use mathlib.Core.Bool.{true, false}
 use mathlib.Core.List.{List, [], _∷_}
 use lib.Dec.{ltb}
 use lib.ListN.{length, getD, take, drop, drop-of-length-le, length-drop}
-use lib.Seq.{drop-cons, drop-drop, take-all, getD-take, getD-drop, length-take-le}
+use lib.Seq.{drop-cons, drop-drop, getD-take, getD-drop, length-take-le}
 use borrow.Author.Tests.{ltb-true, ltb-false}
 use Rattle.srec.specs.Lines.{Line, isEnd, front, push, behind, lines}
 use Rattle.hex.specs.Digits.{byteOf}
 use Rattle.hex.proofs.TestLaws.{by-test}
-use Rattle.reader.specs.declared.Found.the-variants.{At, Nothing}
-use Rattle.reader.specs.Records.{leading, found, Counted}
+use Rattle.lines.specs.declared.Found.the-variants.{At, Nothing}
+use Rattle.lines.specs.Finds.{leading, found, Counted}
 
 -- ---- counting line ends, and the characters before one
 
@@ -41,10 +41,6 @@ front-more t i l e = rw (drop-cons t i 0 l, e, add-one i)
 -- nothing is left to count
 pub front-none : (t : List ℕ) (i : ℕ) → length t ≤ i → length (front (drop i t)) ≡ 0
 front-none t i l = rw (drop-of-length-le t l)
-
--- a part up to the end
-pub rest : (i : ℕ) (l : List ℕ) → take (length l - i) (drop i l) ≡ drop i l
-rest i l = take-all (length l - i) (drop i l) (omega (arith, length-drop i l))
 
 -- ---- the next record
 

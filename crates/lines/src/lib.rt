@@ -1,0 +1,75 @@
+// Where the records of a text stand.
+ghost use mathlib.Core.Path.{_≡_};
+ghost use Prim.Native.Nat.{_≤_};
+ghost use lib.ListN.{length, drop};
+ghost use Rattle.hex.specs.Tables.{digitTable};
+ghost use Rattle.srec.specs.Lines.{isEnd, front, lines};
+ghost use Rattle.lines.specs.Finds.{leading, found, Counted};
+
+// The next record of a text: from its first character to behind its last one.
+pub enum Found {
+    At { from: usize, to: usize },
+    Nothing,
+}
+
+// A line end: LF or CR.
+fn is_end(c: u8) -> bool
+    ensures { λ r. ⌜ r ≡ isEnd c ⌝ }
+{
+    c == 10 || c == 13
+}
+
+// How many line ends a text begins with.
+fn count_ends(text: &[u8]) -> usize
+    ensures { λ r. ⌜ (r ≡ leading (now (text .entry))) × (r ≤ length (now (text .entry))) ⌝ }
+{
+    let mut i: usize = 0;
+    while i < text.len() {
+        if !is_end(text[i]) {
+            return i;
+        }
+        i += 1;
+    }
+    i
+}
+
+// How many characters a text begins with before a line end.
+fn count_chars(text: &[u8]) -> usize
+    ensures { λ r. ⌜ (r ≡ length (front (now (text .entry)))) × (r ≤ length (now (text .entry))) ⌝ }
+{
+    let mut i: usize = 0;
+    while i < text.len() {
+        if is_end(text[i]) {
+            return i;
+        }
+        i += 1;
+    }
+    i
+}
+
+// The first record from a place on.
+pub fn next_record(text: &[u8], at: usize) -> Found
+    requires { ⌜ at ≤ length (now text) ⌝ }
+    ensures { λ r. ⌜ r ≡ found (lines at (drop at (now (text .entry)))) ⌝ }
+{
+    let from = at + count_ends(&text[at..]);
+    if from == text.len() {
+        return Found::Nothing;
+    }
+    let to = from + count_chars(&text[from..]);
+    Found::At { from, to }
+}
+
+// The first record from a place on, of a text whose records are as long as their counts say: it does not look for the end.
+pub fn next_counted(table: &[u8; 256], text: &[u8], at: usize) -> Found
+    requires { ⌜ (now table ≡ digitTable) × (at ≤ length (now text)) × Counted (lines at (drop at (now text))) ⌝ }
+    ensures { λ r. ⌜ r ≡ found (lines at (drop at (now (text .entry)))) ⌝ }
+{
+    let from = at + count_ends(&text[at..]);
+    if from == text.len() {
+        return Found::Nothing;
+    }
+    let count = hex::byte_of(table, text[from + 2], text[from + 3]) as usize;
+    let to = from + (4 + 2 * count);
+    Found::At { from, to }
+}
