@@ -107,38 +107,30 @@ fn run_text(base: u32, text: &[u8], memory: &mut [u8], marks: &mut [u8], out: &m
     }
 }
 
-// Runs a text in the window that its heading gives, at the start of the memory and the marks.
-fn run_window(
-    table: &[u8; 256],
-    heading: &[u8],
-    text: &[u8],
-    memory: &mut [u8],
-    marks: &mut [u8],
-    out: &mut [u8],
-)
+// Runs a text in the window that its heading gives.
+fn run_window(table: &[u8; 256], heading: &[u8], text: &[u8])
     requires { ⌜ (now table ≡ digitTable) × (18 ≤ length (now heading)) ⌝ }
 {
     let base = hex::number_of(table, &heading[1..9]);
     let cells = hex::number_of(table, &heading[10..18]) as usize;
-    if memory.len() < cells {
+    if cells > 65536 {
         io::write_all(STDOUT_FILENO, b"too many cells\n");
         return;
     }
-    if marks.len() < cells {
-        io::write_all(STDOUT_FILENO, b"too few marks\n");
-        return;
-    }
-    run_text(base, text, &mut memory[..cells], &mut marks[..cells], out);
+    let mut memory = io::large_buffer();
+    let mut marks = io::large_buffer();
+    let mut out = io::large_buffer();
+    run_text(
+        base,
+        text,
+        &mut memory[..cells],
+        &mut marks[..cells],
+        &mut out,
+    );
 }
 
 // Runs the first of some cases and returns how many characters it has.
-fn run_case(
-    table: &[u8; 256],
-    cases: &[u8],
-    memory: &mut [u8],
-    marks: &mut [u8],
-    out: &mut [u8],
-) -> usize
+fn run_case(table: &[u8; 256], cases: &[u8]) -> usize
     requires { ⌜ (now table ≡ digitTable) × (0 < length (now cases)) ⌝ }
     ensures { λ r. ⌜ (0 < r) × (r ≤ length (now (cases .entry))) ⌝ }
 {
@@ -154,24 +146,21 @@ fn run_case(
     let from = end + 1;
     let to = from + count_before(64, &cases[from..]);
     io::write_all(STDOUT_FILENO, &cases[..from]);
-    run_window(table, &cases[..end], &cases[from..to], memory, marks, out);
+    run_window(table, &cases[..end], &cases[from..to]);
     to
 }
 
 // Runs all cases.
-fn run_cases(cases: &[u8], memory: &mut [u8], marks: &mut [u8], out: &mut [u8]) {
+fn run_cases(cases: &[u8]) {
     let table = hex::digit_table();
     let mut at: usize = 0;
     while at < cases.len() {
-        at += run_case(&table, &cases[at..], memory, marks, out);
+        at += run_case(&table, &cases[at..]);
     }
 }
 
 fn main() {
     let mut cases = io::large_buffer();
-    let mut memory = io::large_buffer();
-    let mut marks = io::large_buffer();
-    let mut out = io::large_buffer();
     let n = io::read_full(STDIN_FILENO, &mut cases);
-    run_cases(&cases[..n], &mut memory, &mut marks, &mut out);
+    run_cases(&cases[..n]);
 }
