@@ -93,9 +93,9 @@ same-length-2 c = c .before .before .before .before .before .before .before .bef
 returns-2 : tie.Need-returns-2 Inv-loop μ-loop
 returns-2 c =
     let q = c .before .before .before in
-    let at-place = q .before .before .before .before in
-    let at-loop = at-place .before .before .before in
-    rw (c .unread .ensures) (told-unread _ _ _ _ _ _ (at-loop .loop .inv .1) _ _ (next-at at-place) _ _ _ _ (q .read-record .ensures)
+    let at-found = q .before .before .before .before in
+    let at-loop = at-found .before .before .before in
+    rw (c .unread .ensures) (told-unread _ _ _ _ _ _ (at-loop .loop .inv .1) _ _ (next-at at-found) _ _ _ _ (q .read-record .ensures)
     (c .before .enum-told2 .given .1))
 
 judge-requires : tie.Need-judge-requires Inv-loop μ-loop
@@ -158,8 +158,8 @@ enum-known-step-3 c = search needs
 
 loop-less : tie.Need-loop-less Inv-loop μ-loop
 loop-less c =
-    let at-place = c .before .before .before .before .before .before .before .before .before .before .before in
-    let x = next-at at-place in omega (arith, x .low, x .some-chars, x .high)
+    let at-found = c .before .before .before .before .before .before .before .before .before .before .before in
+    let x = next-at at-found in omega (arith, x .low, x .some-chars, x .high)
 
 loop-again : tie.Need-loop-again Inv-loop μ-loop
 loop-again c =
@@ -201,8 +201,8 @@ returns-5 c =
 
 loop-less-2 : tie.Need-loop-less-2 Inv-loop μ-loop
 loop-less-2 c =
-    let at-place = c .before .before .before .before .before .before .before .before .before .before .before .before .before .before .before .before in
-    let x = next-at at-place in omega (arith, x .low, x .some-chars, x .high)
+    let at-found = c .before .before .before .before .before .before .before .before .before .before .before .before .before .before .before .before in
+    let x = next-at at-found in omega (arith, x .low, x .some-chars, x .high)
 
 loop-again-2 : tie.Need-loop-again-2 Inv-loop μ-loop
 loop-again-2 c =

@@ -51,20 +51,20 @@ after-count c = simp length-set at (c .put-pair .kept .0)
 after-address : (c : tie.After-put-pairs) → length (c .put-pairs .last .0) ≡ length
     (c .before .before .before .before .before .before .before .before .before .before .args .out .now)
 after-address c =
-    let at-place = c .before .before .before .before in
-    c .put-pairs .kept .0 ∙ after-count at-place
+    let at-put-pair = c .before .before .before .before in
+    c .put-pairs .kept .0 ∙ after-count at-put-pair
 
 after-bytes : (c : tie.After-put-pairs2) → length (c .put-pairs2 .last .0) ≡ length
     (c .before .before .before .before .before .before .before .before .before .before .before .before .before .before .args .out .now)
 after-bytes c =
-    let at-place = c .before .before .before .before in
-    c .put-pairs2 .kept .0 ∙ after-address at-place
+    let at-put-pairs = c .before .before .before .before in
+    c .put-pairs2 .kept .0 ∙ after-address at-put-pairs
 
 after-check : (c : tie.After-put-pair2) → length (c .put-pair2 .last .0) ≡ length
     (c .before .before .before .before .before .before .before .before .before .before .before .before .before .before .before .before .before .before .args .out .now)
 after-check c =
-    let at-place = c .before .before .before .before in
-    c .put-pair2 .kept .0 ∙ after-bytes at-place
+    let at-put-pairs2 = c .before .before .before .before in
+    c .put-pair2 .kept .0 ∙ after-bytes at-put-pairs2
 
 put-pairs-requires : tie.Need-put-pairs-requires
 put-pairs-requires c κs = omega (arith, after-count (c .before .before .before))

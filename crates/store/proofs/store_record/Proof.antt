@@ -26,9 +26,9 @@ window-at : (c : tie.Else3) → (c .before .before .before .before .before .befo
     (c .before .before .before .before) .a) × (data-at (c .before .before .before .before) .a + length
     (data-at (c .before .before .before .before) .ds) ≤ c .before .before .before .before .before .before .before .before .before .before .args .base + length (c .before .before .before .before .before .before .before .before .before .before .args .memory .now))
 window-at c =
-    let at-place = c .before .before .before .before in
-    let at-args = at-place .before .before .before .before .before .before in
-    in-window (at-args .args .memory .now) _ _ _ (data-at at-place) (λ z. c .if3 .left (count-at (c .before) ∙ z))
+    let at-width-of = c .before .before .before .before in
+    let at-args = at-width-of .before .before .before .before .before .before in
+    in-window (at-args .args .memory .now) _ _ _ (data-at at-width-of) (λ z. c .if3 .left (count-at (c .before) ∙ z))
 
 shared-slice-read-kind : tie.Need-shared-slice-read-kind
 shared-slice-read-kind c = omega (arith, readable _ _ _ (c .before .before .before .pre .1) .fields .long)
@@ -62,9 +62,9 @@ sub-count c = omega (arith, c .byte-of .ensures ∙ data-at (c .before .before .
 
 returns-3 : tie.Need-returns-3
 returns-3 c =
-    let at-place = c .before .before .before .before in
-    let at-args = at-place .before .before .before .before .before .before in
-    none-stored (at-args .args .memory .now) _ _ _ (data-at at-place) (sym (count-at (c .before)) ∙ c .if3 .taken)
+    let at-width-of = c .before .before .before .before in
+    let at-args = at-width-of .before .before .before .before .before .before in
+    none-stored (at-args .args .memory .now) _ _ _ (data-at at-width-of) (sym (count-at (c .before)) ∙ c .if3 .taken)
 
 mul-data : tie.Need-mul-data
 mul-data c = search needs
@@ -116,15 +116,15 @@ part-store-pairs-start-2 c = search needs
 
 part-store-pairs-end-2 : tie.Need-part-store-pairs-end-2
 part-store-pairs-end-2 c =
-    let at-place = c .before .before .before .before in
-    let at-place-2 = at-place .before .before .before in
-    omega (arith, count-at at-place, data-at at-place-2 .fields .long)
+    let at-byte-of = c .before .before .before .before in
+    let at-width-of = at-byte-of .before .before .before in
+    omega (arith, count-at at-byte-of, data-at at-width-of .fields .long)
 
 store-pairs-requires : tie.Need-store-pairs-requires
 store-pairs-requires c κs =
     let at-number-of = c .before .before in
-    let at-place = at-number-of .before .before in
-    let at-byte-of = at-place .before in
+    let at-else3 = at-number-of .before .before in
+    let at-byte-of = at-else3 .before in
     let at-width-of = at-byte-of .before .before .before in
     let s = at-width-of .before .before .before .before .before .before in
     let w = at-width-of .width-of .result in (
@@ -132,7 +132,7 @@ store-pairs-requires c κs =
       two-for-one (s .args .chars .now) (s .args .memory .now) (4 + 2 * w) (at-number-of .number-of .result - s .args .base)
           (at-byte-of .byte-of .result - (w + 1))
           (omega (arith, count-at at-byte-of, data-at at-width-of .fields .long))
-          (omega (arith, address-at at-number-of, count-at at-byte-of, window-at at-place)),
+          (omega (arith, address-at at-number-of, count-at at-byte-of, window-at at-else3)),
     )
 
 same-length : tie.Need-same-length
@@ -141,11 +141,11 @@ same-length c = search needs
 returns-4 : tie.Need-returns-4
 returns-4 c =
     let at-store-pairs = c .before .before in
-    let at-place = at-store-pairs .before .before .before in
-    let at-place-2 = at-place .before .before .before in
-    let at-place-3 = at-place-2 .before .before .before in
-    let at-args = at-place-3 .before .before .before .before .before .before in
-    part-stored (at-args .args .memory .now) _ _ _ (data-at at-place-3) _ _ _ (address-at at-place) (count-at at-place-2)
+    let at-number-of = at-store-pairs .before .before .before in
+    let at-byte-of = at-number-of .before .before .before in
+    let at-width-of = at-byte-of .before .before .before in
+    let at-args = at-width-of .before .before .before .before .before .before in
+    part-stored (at-args .args .memory .now) _ _ _ (data-at at-width-of) _ _ _ (address-at at-number-of) (count-at at-byte-of)
     (at-store-pairs .store-pairs .ensures)
 
 pub store-record-spec : {M : Type 1} → statement M

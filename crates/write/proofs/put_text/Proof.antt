@@ -109,8 +109,8 @@ put-count-requires c κs =
 
 sub-kind : tie.Need-sub-kind
 sub-kind c =
-    let at-place = c .before .before .before .before .before .before .before .before .before .before .before .before .before .before .before .before in
-    omega (arith, narrow at-place)
+    let s = c .before .before .before .before .before .before .before .before .before .before .before .before .before .before .before .before in
+    omega (arith, narrow s)
 
 cast-kind : tie.Need-cast-kind
 cast-kind c = search needs

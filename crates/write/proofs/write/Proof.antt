@@ -60,12 +60,12 @@ refused-requires-3 c κs = search needs
 
 returns-3 : tie.Need-returns-3
 returns-3 c =
-    let at-place = c .before .before in
-    let at-args = at-place .before .before .before .before .before .before in
+    let at-else2 = c .before .before in
+    let at-args = at-else2 .before .before .before .before .before .before in
     let a = at-args .args in
     declines (a .base) (a .memory .now) (a .marks .now) (a .header .now) (a .entry) (length (a .out .now)) (refusal 15 0 0)
     (c .refused3 .result) (a .out .now) (row-15 (a .base) (a .memory .now) (a .marks .now) (a .header .now) (a .entry)
-    (length (a .out .now)) (allowed at-place) (c .before .if3 .taken)) (c .refused3 .ensures)
+    (length (a .out .now)) (allowed at-else2) (c .before .if3 .taken)) (c .refused3 .ensures)
 
 first-bad-mark-requires : tie.Need-first-bad-mark-requires
 first-bad-mark-requires c κs = search needs
@@ -77,13 +77,13 @@ returns-4 : tie.Need-returns-4
 returns-4 c =
     let at-first-bad-mark = c .before .before in
     let at-if3 = at-first-bad-mark .before in
-    let at-place = at-if3 .before in
-    let at-args = at-place .before .before .before .before .before .before in
+    let at-else2 = at-if3 .before in
+    let at-args = at-else2 .before .before .before .before .before .before in
     let a = at-args .args in
     let bad = at-first-bad-mark .first-bad-mark .ensures in
     declines (a .base) (a .memory .now) (a .marks .now) (a .header .now) (a .entry) (length (a .out .now))
     (refusal 16 0 (firstBadMark (a .marks .now))) (c .refused4 .result) (a .out .now)
-    (row-16 (a .base) (a .memory .now) (a .marks .now) (a .header .now) (a .entry) (length (a .out .now)) (allowed at-place)
+    (row-16 (a .base) (a .memory .now) (a .marks .now) (a .header .now) (a .entry) (length (a .out .now)) (allowed at-else2)
     (at-if3 .if3 .left) (omega (arith, bad, c .before .if4 .taken))) (rw bad at (c .refused4 .ensures))
 
 measure-requires : tie.Need-measure-requires
@@ -115,37 +115,37 @@ refused-requires-5 c κs = search needs
 
 returns-5 : tie.Need-returns-5
 returns-5 c =
-    let at-place = c .before .before in
-    let at-if4 = at-place .before .before .before in
+    let at-text-length = c .before .before in
+    let at-if4 = at-text-length .before .before .before in
     let at-first-bad-mark = at-if4 .before in
     let at-if3 = at-first-bad-mark .before in
-    let at-place-2 = at-if3 .before in
-    let at-args = at-place-2 .before .before .before .before .before .before in
+    let at-else2 = at-if3 .before in
+    let at-args = at-else2 .before .before .before .before .before .before in
     let a = at-args .args in
-    let need = needed at-place in
+    let need = needed at-text-length in
     declines (a .base) (a .memory .now) (a .marks .now) (a .header .now) (a .entry) (length (a .out .now))
     (refusal 17 0 (length (text at-args))) (c .refused5 .result) (a .out .now)
-    (row-17 (a .base) (a .memory .now) (a .marks .now) (a .header .now) (a .entry) (length (a .out .now)) (allowed at-place-2)
+    (row-17 (a .base) (a .memory .now) (a .marks .now) (a .header .now) (a .entry) (length (a .out .now)) (allowed at-else2)
     (at-if3 .if3 .left) (omega (arith, at-first-bad-mark .first-bad-mark .ensures, at-if4 .if4 .left))
     (omega (arith, need, c .before .if5 .taken)))
     (rw need at (c .refused5 .ensures))
 
 put-text-requires : tie.Need-put-text-requires
 put-text-requires c κs =
-    let at-place = c .before .before in
-    let at-width-for = at-place .before in
-    let at-place-2 = at-width-for .before in
-    let at-if3 = at-place-2 .before .before .before in
+    let at-text-length = c .before .before in
+    let at-width-for = at-text-length .before in
+    let at-measure = at-width-for .before in
+    let at-if3 = at-measure .before .before .before in
     let at-if2 = at-if3 .before in
     let at-if1 = at-if2 .before in
-    let size = sized at-place-2 in (
+    let size = sized at-measure in (
       (sym (at-if1 .if1 .left), omega (arith, at-if1 .if1 .left, at-if2 .if2 .left), at-if3 .if3 .left),
       (
         ap (λ (z : Size). z .records) size,
         (
           at-width-for .width-for .ensures ∙ ap (λ (z : Size). widthFor (z .largest)) size,
           omega
-              (arith, needed at-place, c .before .if5 .left),
+              (arith, needed at-text-length, c .before .if5 .left),
         ),
       ),
     )
@@ -164,13 +164,13 @@ returns-6 c =
     let at-if4 = at-text-length .before .before .before in
     let at-first-bad-mark = at-if4 .before in
     let at-if3 = at-first-bad-mark .before in
-    let at-place = at-if3 .before in
-    let at-args = at-place .before .before .before .before .before .before in
+    let at-else2 = at-if3 .before in
+    let at-args = at-else2 .before .before .before .before .before .before in
     let a = at-args .args in
     let need = needed at-text-length in
     accepts (a .base) (a .memory .now) (a .marks .now) (a .header .now) (a .entry) (length (a .out .now)) (c .accepted .result)
     (a .out .now) (at-put-text .put-text .last .0) (at-text-length .text-length .result)
-    (is-written (a .base) (a .memory .now) (a .marks .now) (a .header .now) (a .entry) (length (a .out .now)) (allowed at-place)
+    (is-written (a .base) (a .memory .now) (a .marks .now) (a .header .now) (a .entry) (length (a .out .now)) (allowed at-else2)
     (at-if3 .if3 .left) (omega (arith, at-first-bad-mark .first-bad-mark .ensures, at-if4 .if4 .left))
     (omega (arith, need, at-if5 .if5 .left)))
     need (c .accepted .ensures) (at-put-text .put-text .ensures)
