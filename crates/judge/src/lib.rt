@@ -57,7 +57,8 @@ fn limit(width: usize) -> usize
     4294967296
 }
 
-// Rows 8 to 11 for a record that was read, against what came before it.
+// Rows 8 to 11 for a record that was read, against what came before it. By its type character it is an S0 (48), an S5 (53), a
+// terminator (above 53) or a data record.
 pub fn judge(state: State, kind: u8, address: u32, count: usize) -> Step
     requires { ⌜ (isKnown (kindOf kind) ≡ true) × (state .number + 1 < 2 ^ 64) × (state .records + 1 < 2 ^ 64) × (state .cells + count < 2 ^ 64) × (count < 2 ^ 32) ⌝ }
     ensures { λ r. ⌜ r ≡ asStep (judgeScan (stateWith [] state) (known (kindOf kind)) address (replicate count 0)) ⌝ }
@@ -69,14 +70,12 @@ pub fn judge(state: State, kind: u8, address: u32, count: usize) -> Step
         cells: state.cells,
         width: state.width,
     };
-    // S0
     if kind == 48 {
         if state.number != 0 {
             return Step::Refuse(8);
         }
         return Step::Pass(next);
     }
-    // S5
     if kind == 53 {
         if address as usize != state.records {
             return Step::Refuse(10);
@@ -87,7 +86,6 @@ pub fn judge(state: State, kind: u8, address: u32, count: usize) -> Step
     if differs(state.width, width) {
         return Step::Refuse(9);
     }
-    // a terminator
     if kind > 53 {
         return Step::Finish(next);
     }
