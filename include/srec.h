@@ -54,6 +54,7 @@ uint32_t srec_load(const uint8_t *text, size_t text_len, uint32_t base, uint8_t 
 
 /* Writes the canonical text of a window at the start of out. Returns its length, or 0 if a row (1, 15, 16 or 17) refuses
  * it; a canonical text is never empty. After a refusal out is unchanged. Bytes of out behind the text are unchanged.
+ * Row 18, an image without an entry, never comes up here: the entry is always given, and 0 is an entry like any other.
  *
  *   base, memory, memory_len, marks, marks_len   the window; each mark is 0 or 1
  *   header, header_len                           the header's bytes, at most 252
@@ -64,7 +65,7 @@ uint32_t srec_load(const uint8_t *text, size_t text_len, uint32_t base, uint8_t 
 size_t srec_write(uint32_t base, const uint8_t *memory, size_t memory_len, const uint8_t *marks, size_t marks_len,
                   const uint8_t *header, size_t header_len, uint32_t entry, uint8_t *out, size_t out_len);
 
-/* The words for a row, or for 0; NULL for a number that is no row. */
+/* The words for a row, or for 0; NULL for a number that is no row. No function here gives row 18. */
 static inline const char *srec_reason(unsigned number)
 {
     static const char *const words[] = {
@@ -86,6 +87,7 @@ static inline const char *srec_reason(unsigned number)
         "the header has more than 252 bytes",
         "a mark is neither 0 nor 1",
         "the output is too short for the text",
+        "the image has no entry",
     };
     return number < sizeof words / sizeof words[0] ? words[number] : NULL;
 }

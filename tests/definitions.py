@@ -18,7 +18,7 @@ from collections import Counter
 from pathlib import Path
 
 ROOT = Path(__file__).resolve().parent.parent
-CRATES = ("hex", "window", "srec")
+CRATES = ("lists", "hex", "window", "text", "srec")
 # of so many drawn cases of a side, so many of each refusal and of the accepted ones: some refusals are rarely drawn
 DRAWN, REFUSED, ACCEPTED = 3000, 30, 100
 # what an output holds before a write: no character of a text
@@ -34,17 +34,21 @@ use lib.ListN.{length}
 use Rattle.window.specs.declared.Refusal.{Refusal}
 use Rattle.window.specs.Windows.{Window}
 use Rattle.window.specs.Plans.{Outcome}
-use Rattle.srec.specs.declared.Header.{Header}
-use Rattle.srec.specs.declared.Loaded.{Loaded}
-use Rattle.srec.specs.declared.Written.{Written}
-use Rattle.srec.specs.Load.{load, loadAnswer, memoryAfter, marksAfter}
-use Rattle.srec.specs.Write.{WriteOutcome, write, writeAnswer, outputAfter}
+use Rattle.window.specs.declared.Entry.{Entry}
+use Rattle.window.specs.declared.Entry.the-variants.{Absent, Present}
+use Rattle.window.specs.declared.Header.{Header}
+use Rattle.window.specs.declared.Loaded.{Loaded}
+use Rattle.window.specs.declared.Written.{Written}
+use Rattle.text.specs.Formats.{plan}
+use Rattle.text.specs.Load.{load, loadAnswer, memoryAfter, marksAfter}
+use Rattle.text.specs.Write.{WriteOutcome, write, writeAnswer, outputAfter}
+use Rattle.srec.specs.Formats.{srec}
 
 pub data Case : Type 0 where
   -- window and text; the answer, and memory and marks afterwards
   loads : Window → List ℕ → Loaded → List ℕ → List ℕ → Case
   -- window, header, entry and output; the answer, and the output afterwards
-  writes : Window → List ℕ → ℕ → List ℕ → Written → List ℕ → Case
+  writes : Window → List ℕ → Entry → List ℕ → Written → List ℕ → Case
 
 abbrev pub sameList : List ℕ → List ℕ → Bool
 sameList [] [] = true
@@ -58,9 +62,15 @@ sameRefusal f g = eqb (f .reason) (g .reason) && eqb (f .ordinal) (g .ordinal) &
 abbrev pub sameHeader : Header → Header → Bool
 sameHeader h k = eqb (h .len) (k .len) && sameList (h .bytes) (k .bytes)
 
+abbrev pub sameEntry : Entry → Entry → Bool
+sameEntry Absent Absent = true
+sameEntry Absent (Present b) = false
+sameEntry (Present a) Absent = false
+sameEntry (Present a) (Present b) = eqb a b
+
 abbrev pub sameLoaded : Loaded → Loaded → Bool
 sameLoaded l k =
-    sameRefusal (l .refusal) (k .refusal) && sameHeader (l .header) (k .header) && eqb (l .entry) (k .entry)
+    sameRefusal (l .refusal) (k .refusal) && sameHeader (l .header) (k .header) && sameEntry (l .entry) (k .entry)
     && eqb (l .records) (k .records) && eqb (l .cells) (k .cells)
 
 abbrev pub sameWritten : Written → Written → Bool
@@ -76,14 +86,15 @@ writeGives out o answer output = sameWritten (writeAnswer o) answer && sameList 
 -- to unfold it is to unfold all that its line names: every definition that is shut
 unfoldable pub agrees : Case → Bool
 unfolding {unfoldable}
-agrees (loads W text answer memory marks) = loadGives W (load W text) answer memory marks
-agrees (writes W header entry out answer output) = writeGives out (write W header entry (length out)) answer output
+agrees (loads W text answer memory marks) = loadGives W (load W (plan srec text)) answer memory marks
+agrees (writes W header entry out answer output) = writeGives out (write srec W header entry (length out)) answer output
 """
 
 STATEMENTS = """\
 use mathlib.Core.List.{[], _∷_}
 use lib.Dec.{T}
 use lib.ListN.{replicate}
+use Rattle.window.specs.declared.Entry.the-variants.{Absent, Present}
 use Rattle.sense.specs.Comparison.{agrees}
 use Rattle.sense.specs.Comparison.Case.{loads, writes}
 """
@@ -141,12 +152,20 @@ def window(case):
     return record(base=case["base"], memory=numbers(case["memory"]), marks=numbers(case["marks"]))
 
 
+def entry(case):
+    return "Absent" if case["entry"] is None else f"(Present {case['entry']})"
+
+
+def refusal(case):
+    return record(reason=case["number"], ordinal=case["record"], place=case["place"])
+
+
 def load_case(case):
     header = case["header"]
     answer = record(
-        refusal=record(reason=case["number"], ordinal=case["record"], place=case["place"]),
+        refusal=refusal(case),
         header=record(len=len(header), bytes=filled(header, 252, 0)),
-        entry=case["entry"],
+        entry=entry(case),
         records=case["records"],
         cells=case["cells"],
     )
@@ -156,9 +175,9 @@ def load_case(case):
 
 def write_case(case):
     text, room = case["text_out"], case["room"]
-    answer = record(refusal=record(reason=case["number"], ordinal=0, place=case["place"]), length=len(text))
+    answer = record(refusal=refusal(case), length=len(text))
     before, after = filled([], room, UNWRITTEN), filled(text, room, UNWRITTEN)
-    return " ".join(["writes", window(case), numbers(case["header"]), str(case["entry"]), before, answer, after])
+    return " ".join(["writes", window(case), numbers(case["header"]), entry(case), before, answer, after])
 
 
 def unfoldable():

@@ -1,11 +1,11 @@
-/* words: srec_reason has words of their own for 0 to 17, and none for other numbers. */
+/* words: srec_reason has words of their own for 0 to 18, and none for other numbers. */
 #include <limits.h>
 #include <string.h>
 
 #include "check.h"
 #include "srec.h"
 
-enum { LAST = 17 };
+enum { LAST = 18 };
 
 int main(void)
 {

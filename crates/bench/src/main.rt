@@ -3,6 +3,13 @@ use convert::Converted;
 use libc::STDIN_FILENO;
 use libc::STDOUT_FILENO;
 
+// The most characters of an input, the cells of the window, and the room for a canonical text.
+const MOST: usize = 32768;
+
+const CELLS: usize = 8192;
+
+const ROOM: usize = 65536;
+
 // One line: why, in which record and at which place a text is refused.
 fn print_refusal(reason: u32, ordinal: usize, place: usize) {
     io::write_all(STDOUT_FILENO, b"refused ");
@@ -16,22 +23,22 @@ fn print_refusal(reason: u32, ordinal: usize, place: usize) {
 
 fn main() {
     // one byte more than is taken, to see input that is too long
-    let mut text = [0u8; 32769];
+    let mut text = [0u8; MOST + 1];
     let n = io::read_full(STDIN_FILENO, &mut text);
-    if n > 32768 {
+    if n > MOST {
         io::write_all(STDOUT_FILENO, b"too long\n");
         return;
     }
-    let mut memory = [0u8; 8192];
-    let mut marks = [0u8; 8192];
-    let mut out = [0u8; 65536];
+    let mut memory = [0u8; CELLS];
+    let mut marks = [0u8; CELLS];
+    let mut out = [0u8; ROOM];
     let converted = convert::convert(0, &text[..n], &mut memory, &mut marks, &mut out);
     match converted {
         Converted::Refused(refusal) => {
             print_refusal(refusal.reason, refusal.ordinal, refusal.place);
         }
         Converted::Text(length) => {
-            if length <= 65536 {
+            if length <= ROOM {
                 io::write_all(STDOUT_FILENO, &out[..length]);
             }
         }

@@ -1,16 +1,20 @@
 // The C face: two thin functions over the library. include/srec.h declares them.
+use window::Entry;
 ghost use mathlib.Core.Path.{_≡_};
 ghost use lib.ListN.{length};
-ghost use Rattle.srec.specs.Load.{load, loadAnswer, memoryAfter, marksAfter};
-ghost use Rattle.srec.specs.Write.{write, writeAnswer, outputAfter};
+ghost use Rattle.window.specs.declared.Entry.the-variants.{Present};
 ghost use Rattle.window.specs.Windows.{windowOf};
+ghost use Rattle.text.specs.Formats.{plan};
+ghost use Rattle.text.specs.Load.{load, loadAnswer, memoryAfter, marksAfter};
+ghost use Rattle.text.specs.Write.{write, writeAnswer, outputAfter};
+ghost use Rattle.srec.specs.Formats.{srec};
 
 // Loads a text into a window: the refusal's number, 0 for accepted.
 #[no_mangle]
 pub extern "C" fn srec_load(text: &[u8], base: u32, memory: &mut [u8], marks: &mut [u8]) -> u32
-    ensures answer { λ r. ⌜ r ≡ loadAnswer (load (windowOf base (now (memory .entry)) (now (marks .entry))) (now (text .entry))) .refusal .reason ⌝ }
-    ensures memory { λ _. ⌜ now (memory .exit) ≡ memoryAfter (now (memory .entry)) (load (windowOf base (now (memory .entry)) (now (marks .entry))) (now (text .entry))) ⌝ }
-    ensures marks { λ _. ⌜ now (marks .exit) ≡ marksAfter (now (marks .entry)) (load (windowOf base (now (memory .entry)) (now (marks .entry))) (now (text .entry))) ⌝ }
+    ensures answer { λ r. ⌜ r ≡ loadAnswer (load (windowOf base (now (memory .entry)) (now (marks .entry))) (plan srec (now (text .entry)))) .refusal .reason ⌝ }
+    ensures memory { λ _. ⌜ now (memory .exit) ≡ memoryAfter (now (memory .entry)) (load (windowOf base (now (memory .entry)) (now (marks .entry))) (plan srec (now (text .entry)))) ⌝ }
+    ensures marks { λ _. ⌜ now (marks .exit) ≡ marksAfter (now (marks .entry)) (load (windowOf base (now (memory .entry)) (now (marks .entry))) (plan srec (now (text .entry)))) ⌝ }
 {
     let loaded = load::load(text, base, memory, marks);
     let refusal = loaded.refusal;
@@ -27,9 +31,9 @@ pub extern "C" fn srec_write(
     entry: u32,
     out: &mut [u8],
 ) -> usize
-    ensures answer { λ r. ⌜ r ≡ writeAnswer (write (windowOf base (now (memory .entry)) (now (marks .entry))) (now (header .entry)) entry (length (now (out .entry)))) .length ⌝ }
-    ensures output { λ _. ⌜ now (out .exit) ≡ outputAfter (now (out .entry)) (write (windowOf base (now (memory .entry)) (now (marks .entry))) (now (header .entry)) entry (length (now (out .entry)))) ⌝ }
+    ensures answer { λ r. ⌜ r ≡ writeAnswer (write srec (windowOf base (now (memory .entry)) (now (marks .entry))) (now (header .entry)) (Present entry) (length (now (out .entry)))) .length ⌝ }
+    ensures output { λ _. ⌜ now (out .exit) ≡ outputAfter (now (out .entry)) (write srec (windowOf base (now (memory .entry)) (now (marks .entry))) (now (header .entry)) (Present entry) (length (now (out .entry)))) ⌝ }
 {
-    let written = write::write(base, memory, marks, header, entry, out);
+    let written = srec_write::write(base, memory, marks, header, Entry::Present(entry), out);
     written.length
 }

@@ -8,15 +8,20 @@ use lib.ListN.{length, take, replicate, length-append}
 use Rattle.window.specs.declared.Refusal.{Refusal}
 use Rattle.window.specs.Windows.{Window, row1, row16, windowOf}
 use Rattle.window.specs.Images.{Image}
-use Rattle.window.specs.Plans.{Entry, Summary, Outcome}
+use Rattle.window.specs.declared.Entry.{Entry}
+use Rattle.window.specs.Plans.{Summary, Outcome}
 use Rattle.window.specs.Plans.Outcome.{refused, accepted}
-use Rattle.hex.proofs.TestLaws.{Of, either}
-use Rattle.srec.specs.declared.Loaded.{Loaded}
-use Rattle.srec.specs.Load.{load, loadAnswer, memoryAfter, marksAfter}
-use Rattle.srec.specs.Write.{WriteOutcome, row15, row17, textOf, write, writeAnswer, outputAfter}
-use Rattle.srec.specs.Write.WriteOutcome.{declined, wrote}
-use Rattle.srec.specs.Terms.{loaded, Accepted, writtenAfter}
-use Rattle.srec.proofs.LoadLaws.{accepted-is}
+use Rattle.lists.proofs.TestLaws.{Of, either}
+use Rattle.window.specs.declared.Loaded.{Loaded}
+use Rattle.text.specs.Formats.{plan}
+use Rattle.text.specs.Load.{load, loadAnswer, memoryAfter, marksAfter}
+use Rattle.text.specs.Write.{WriteOutcome, row17, textOf, write, writeAnswer, outputAfter}
+use Rattle.text.specs.Write.WriteOutcome.{declined, wrote}
+use Rattle.text.specs.Terms.{loaded, Accepted, writtenAfter}
+use Rattle.text.proofs.LoadLaws.{accepted-is}
+use Rattle.srec.specs.Formats.{row15, row18, srec}
+use Rattle.srec.proofs.LimitLaws.{limits}
+use Rattle.srec.proofs.SrecFormatLaws.{lawful}
 use Rattle.convert.specs.declared.Converted.{Converted}
 use Rattle.convert.specs.declared.Converted.the-variants.{Refused, Text}
 use Rattle.convert.specs.Conversions.{convertedBy, outputBy, converted, outputOf}
@@ -26,26 +31,27 @@ abbrev Reasoned : WriteOutcome → Type 0
 Reasoned (declined f) = 0 < f .reason
 Reasoned (wrote text) = Unit {0}
 
-write-reasoned : (W : Window) (h : List ℕ) (e : Entry) (room : ℕ) → Of Reasoned (write W h e room)
+-- every write gives a text, or is refused for a reason
+write-reasoned : (W : Window) (h : List ℕ) (e : Entry) (room : ℕ) → Of Reasoned (write srec W h e room)
 unfolding write
 write-reasoned W h e room =
     either (row1 W) (record { got = lit< tt }) (either (row15 h) (record { got = lit< tt }) (either (row16 (W .marks)) (record { got = lit< tt })
-    (either (row17 (textOf W h e) room) (record { got = lit< tt }) (record { got = tt }))))
+    (either (row18 e) (record { got = lit< tt }) (either (row17 (textOf srec W h e) room) (record { got = lit< tt }) (record { got = tt })))))
 
 -- a header's length is within its bytes
-pub header-fits : (W : Window) (text : List ℕ) → loaded W text .header .len ≤ length (loaded W text .header .bytes)
-header-fits W text = go (load W text)
+pub header-fits : (W : Window) (text : List ℕ) → loaded srec W text .header .len ≤ length (loaded srec W text .header .bytes)
+header-fits W text = go (load W (plan srec text))
   where
     go : (o : Outcome) → loadAnswer o .header .len ≤ length (loadAnswer o .header .bytes)
     go (refused f) = zero-le
     go (accepted s img) = omega (arith, length-append (s .header) (replicate (252 - length (s .header)) 0))
 
 -- the write behind a load is given what the load returned and left
-pub written-is : (W : Window) (text : List ℕ) (room : ℕ) (l : Loaded) (m ms : List ℕ) → l ≡ loaded W text → m ≡ memoryAfter (W .memory) (load W text)
-    → ms ≡ marksAfter (W .marks) (load W text)
-    → write (windowOf (W .base) m ms) (take (l .header .len) (l .header .bytes)) (l .entry) room ≡ writtenAfter W text room
+pub written-is : (W : Window) (text : List ℕ) (room : ℕ) (l : Loaded) (m ms : List ℕ) → l ≡ loaded srec W text → m ≡ memoryAfter (W .memory) (load W (plan srec text))
+    → ms ≡ marksAfter (W .marks) (load W (plan srec text))
+    → write srec (windowOf (W .base) m ms) (take (l .header .len) (l .header .bytes)) (l .entry) room ≡ writtenAfter srec W text room
 written-is W text room l m ms e₀ e₁ e₂ =
-    λ i. write (windowOf (W .base) (e₁ i) (e₂ i)) (take (e₀ i .header .len) (e₀ i .header .bytes)) (e₀ i .entry) room
+    λ i. write srec (windowOf (W .base) (e₁ i) (e₂ i)) (take (e₀ i .header .len) (e₀ i .header .bytes)) (e₀ i .entry) room
 
 module _ (W : Window) (text out : List ℕ) where
   -- the answer and the output of a conversion
@@ -53,18 +59,18 @@ module _ (W : Window) (text out : List ℕ) where
   Answers r out′ = (r ≡ converted W text (length out)) × (out′ ≡ outputOf out W text)
 
   -- the load's refusal is the answer, and nothing is written
-  pub load-refused : (f : Refusal) → f ≡ loaded W text .refusal → (f .reason ≡ 0 → ⊥) → Answers (Refused f) out
-  load-refused f e z = go (load W text) e
+  pub load-refused : (f : Refusal) → f ≡ loaded srec W text .refusal → (f .reason ≡ 0 → ⊥) → Answers (Refused f) out
+  load-refused f e z = go (load W (plan srec text)) e
     where
-      go : (o : Outcome) → f ≡ loadAnswer o .refusal → (Refused f ≡ convertedBy o (writtenAfter W text (length out))) × (out ≡ outputBy out o (writtenAfter W text (length out)))
+      go : (o : Outcome) → f ≡ loadAnswer o .refusal → (Refused f ≡ convertedBy o (writtenAfter srec W text (length out))) × (out ≡ outputBy out o (writtenAfter srec W text (length out)))
       go (refused g) q = (ap Refused q, refl)
       go (accepted s img) q = absurd (z (ap (λ (x : Refusal). x .reason) q))
 
-  module _ (a : Accepted W text) (w : WriteOutcome) (is : w ≡ writtenAfter W text (length out)) where
+  module _ (a : Accepted srec W text) (w : WriteOutcome) (is : w ≡ writtenAfter srec W text (length out)) where
     -- behind an accepted load the write decides
     by-write : (r : Converted) (out′ : List ℕ) → ((s : Summary) (img : Image) → r ≡ convertedBy (accepted s img) w) → out′ ≡ outputAfter out w → Answers r out′
     by-write r out′ q m =
-        let l : (s : Summary) × (img : Image) × (load W text ≡ accepted s img) = accepted-is W text a in
+        let l : (s : Summary) × (img : Image) × (load W (plan srec text) ≡ accepted s img) = accepted-is srec limits lawful W text a in
         (q (l .0) (l .1) ∙ (λ i. convertedBy (sym (l .2) i) (is i)), m ∙ (λ i. outputBy out (sym (l .2) i) (is i)))
 
     -- the write's refusal is the answer

@@ -5,10 +5,12 @@ use lib.ListN.{length}
 use Rattle.window.specs.Windows.{Window}
 use Rattle.window.specs.Plans.{Outcome}
 use Rattle.window.specs.Plans.Outcome.{refused, accepted}
-use Rattle.srec.specs.Load.{load}
-use Rattle.srec.specs.Write.{WriteOutcome, outputAfter}
-use Rattle.srec.specs.Write.WriteOutcome.{declined, wrote}
-use Rattle.srec.specs.Terms.{writtenAfter}
+use Rattle.text.specs.Load.{load}
+use Rattle.text.specs.Write.{WriteOutcome, outputAfter}
+use Rattle.text.specs.Write.WriteOutcome.{declined, wrote}
+use Rattle.text.specs.Terms.{writtenAfter}
+use Rattle.text.specs.Formats.{plan}
+use Rattle.srec.specs.Formats.{srec}
 use Rattle.convert.specs.declared.Converted.{Converted}
 use Rattle.convert.specs.declared.Converted.the-variants.{Refused, Text}
 
@@ -25,7 +27,8 @@ outputBy out (accepted s img) w = outputAfter out w
 
 -- for a window and a text, with room for so many characters
 abbrev pub converted : Window → List ℕ → ℕ → Converted
-converted W text room = convertedBy (load W text) (writtenAfter W text room)
+converted W text room = convertedBy (load W (plan srec text)) (writtenAfter srec W text room)
 
+-- the output after that
 abbrev pub outputOf : List ℕ → Window → List ℕ → List ℕ
-outputOf out W text = outputBy out (load W text) (writtenAfter W text (length out))
+outputOf out W text = outputBy out (load W (plan srec text)) (writtenAfter srec W text (length out))

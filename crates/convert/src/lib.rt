@@ -3,6 +3,9 @@ use window::Refusal;
 ghost use mathlib.Core.Path.{_≡_};
 ghost use lib.ListN.{length};
 ghost use Rattle.window.specs.Windows.{windowOf};
+ghost use Rattle.text.specs.Formats.{plan};
+ghost use Rattle.text.specs.Load.{load, memoryAfter, marksAfter};
+ghost use Rattle.srec.specs.Formats.{srec};
 ghost use Rattle.convert.specs.Conversions.{converted, outputOf};
 
 // The refusal of the load or of the write, or the length of the canonical text.
@@ -11,7 +14,7 @@ pub enum Converted {
     Text(usize),
 }
 
-// Loads a text into a window and writes what it left to the output.
+// Loads a text into a window, as `load` does, and writes what it left to the output.
 pub fn convert(
     base: u32,
     text: &[u8],
@@ -20,6 +23,8 @@ pub fn convert(
     out: &mut [u8],
 ) -> Converted
     ensures answer { λ r. ⌜ r ≡ converted (windowOf base (now (memory .entry)) (now (marks .entry))) (now (text .entry)) (length (now (out .entry))) ⌝ }
+    ensures memory { λ _. ⌜ now (memory .exit) ≡ memoryAfter (now (memory .entry)) (load (windowOf base (now (memory .entry)) (now (marks .entry))) (plan srec (now (text .entry)))) ⌝ }
+    ensures marks { λ _. ⌜ now (marks .exit) ≡ marksAfter (now (marks .entry)) (load (windowOf base (now (memory .entry)) (now (marks .entry))) (plan srec (now (text .entry)))) ⌝ }
     ensures output { λ _. ⌜ now (out .exit) ≡ outputOf (now (out .entry)) (windowOf base (now (memory .entry)) (now (marks .entry))) (now (text .entry)) ⌝ }
 {
     let loaded = load::load(text, base, memory, marks);
@@ -30,7 +35,8 @@ pub fn convert(
     let header = loaded.header;
     let bytes = header.bytes;
     let len = header.len;
-    let written = write::write(base, memory, marks, &bytes[..len], loaded.entry, out);
+    let entry = loaded.entry;
+    let written = srec_write::write(base, memory, marks, &bytes[..len], entry, out);
     let declined = written.refusal;
     if declined.reason != 0 {
         return Converted::Refused(declined);

@@ -1,5 +1,5 @@
-pub mod TestLaws
 pub mod DigitLaws
 pub mod NumberLaws
-pub mod TableLaws
+pub mod DigitTableLaws
 pub mod PairLaws
+pub mod PutLaws

@@ -1,19 +1,26 @@
-// Hex digits, bytes as pairs of them, and numbers as bytes.
+// Hex digits, bytes as pairs of them, and numbers as bytes: read and written.
 ghost use mathlib.Core.Path.{_≡_};
-ghost use Prim.Native.Nat.{_+_, _*_, _%_, _≤_, _<_};
+ghost use mathlib.Core.List.{[], _∷_};
+ghost use Prim.Native.Nat.{_+_, _*_, _≤_, _<_};
 ghost use lib.ListN.{length};
-ghost use Rattle.hex.specs.Digits.{isHex, value, byteOf, bytes, firstBad};
-ghost use Rattle.hex.specs.Numbers.{number, sum};
+ghost use Rattle.lists.specs.Lists.{over};
+ghost use Rattle.hex.specs.Digits.{isHex, value, byteOf, bytes, firstBad, digit, digitsOf};
+ghost use Rattle.hex.specs.Numbers.{number, inBytes, sum};
 ghost use Rattle.hex.specs.Tables.{digitOr16, digitTable};
+
+// A letter digit less its value.
+const CAPITAL: u8 = b'A' - 10;
+
+const SMALL: u8 = b'a' - 10;
 
 // The value of a digit of either case; 16 for a character that is none.
 fn digit_of(c: u8) -> u8
     ensures { λ r. ⌜ r ≡ digitOr16 c ⌝ }
 {
     match c {
-        48..=57 => c - 48,
-        65..=70 => c - 55,
-        97..=102 => c - 87,
+        b'0'..=b'9' => c - b'0',
+        b'A'..=b'F' => c - CAPITAL,
+        b'a'..=b'f' => c - SMALL,
         _ => 16,
     }
 }
@@ -70,16 +77,16 @@ pub fn first_bad(table: &[u8; 256], chars: &[u8]) -> usize
     i
 }
 
-// The sum, modulo 256, of the bytes that pairs of digits stand for.
-pub fn sum_pairs(table: &[u8; 256], chars: &[u8]) -> u8
-    requires { ⌜ now table ≡ digitTable ⌝ }
-    ensures { λ r. ⌜ r ≡ sum (bytes (now (chars .entry))) % 256 ⌝ }
+// The sum of the bytes that pairs of digits stand for.
+pub fn sum_pairs(table: &[u8; 256], chars: &[u8]) -> u32
+    requires { ⌜ (now table ≡ digitTable) × (length (now chars) ≤ 1048576) ⌝ }
+    ensures { λ r. ⌜ r ≡ sum (bytes (now (chars .entry))) ⌝ }
 {
     let n = chars.len() / 2;
-    let mut s: u8 = 0;
+    let mut s: u32 = 0;
     let mut k: usize = 0;
     while k < n {
-        s = std::num::wrapping_add_u8(s, byte_of(table, chars[2 * k], chars[2 * k + 1]));
+        s += byte_of(table, chars[2 * k], chars[2 * k + 1]) as u32;
         k += 1;
     }
     s
@@ -110,4 +117,63 @@ pub fn store_pairs(table: &[u8; 256], part: &mut [u8], chars: &[u8])
         part[k] = byte_of(table, chars[2 * k], chars[2 * k + 1]);
         k += 1;
     }
+}
+
+// The digit that is written for a number below 16.
+fn digit_for(n: u8) -> u8
+    requires { ⌜ n < 16 ⌝ }
+    ensures { λ r. ⌜ r ≡ digit n ⌝ }
+{
+    if n < 10 { b'0' + n } else { CAPITAL + n }
+}
+
+// Writes a byte as two digits.
+pub fn put_pair(out: &mut [u8], at: usize, byte: u8)
+    requires { ⌜ at + 2 ≤ length (now out) ⌝ }
+    ensures { λ _. ⌜ now (out .exit) ≡ over (now (out .entry)) at (digitsOf (byte ∷ [])) ⌝ }
+{
+    let low = at + 1;
+    out[at] = digit_for(byte / 16);
+    out[low] = digit_for(byte % 16);
+}
+
+// Writes bytes as pairs of digits.
+pub fn put_pairs(out: &mut [u8], at: usize, bytes: &[u8])
+    requires { ⌜ at + 2 * length (now bytes) ≤ length (now out) ⌝ }
+    ensures { λ _. ⌜ now (out .exit) ≡ over (now (out .entry)) at (digitsOf (now (bytes .entry))) ⌝ }
+{
+    let mut k = 0;
+    while k < bytes.len() {
+        put_pair(out, at + 2 * k, bytes[k]);
+        k += 1;
+    }
+}
+
+// The sum of bytes.
+pub fn sum_bytes(bytes: &[u8]) -> u32
+    requires { ⌜ length (now bytes) ≤ 1048576 ⌝ }
+    ensures { λ r. ⌜ (r ≡ sum (now (bytes .entry))) × (r ≤ 255 * length (now (bytes .entry))) ⌝ }
+{
+    let mut s: u32 = 0;
+    let mut k = 0;
+    while k < bytes.len() {
+        s += bytes[k] as u32;
+        k += 1;
+    }
+    s
+}
+
+// The four bytes of a number, high byte first.
+pub fn bytes_of(number: u32) -> [u8; 4]
+    ensures { λ r. ⌜ r ≡ inBytes 4 number ⌝ }
+{
+    let second = number / 256;
+    let third = second / 256;
+    let fourth = third / 256;
+    [
+        (fourth % 256) as u8,
+        (third % 256) as u8,
+        (second % 256) as u8,
+        (number % 256) as u8,
+    ]
 }

@@ -1,1 +1,1 @@
-pub mod LoadLaws
+pub mod LoaderLaws

@@ -4,20 +4,18 @@ use mathlib.Core.Bool.{Bool, cond, not, _&&_, _||_}
 use mathlib.Core.List.{List}
 use lib.Dec.{ltb, eqb}
 use lib.ListN.{length, getD, take, drop}
+use Rattle.lists.specs.Characters.{char}
 use Rattle.hex.specs.Digits.{bytes, firstBad}
 use Rattle.hex.specs.Numbers.{number, sum}
+use Rattle.text.specs.Scan.{Fault}
 use Rattle.srec.specs.Kinds.{Kind, kindOf, width, hasData, isKnown, known}
-
--- why a record is refused, and where: the row, and the index of a character of the record
-pub record Fault : Type 0 where
-  pub reason : ℕ
-  pub offset : ℕ
 
 -- kind, address and data bytes of a record, or its fault
 pub data Read : Type 0 where
   good : Kind → ℕ → List ℕ → Read
   bad : Fault → Read
 
+-- refused by this row, at this character
 abbrev pub fault : ℕ → ℕ → Read
 fault reason offset = bad (record { reason = reason; offset = offset })
 
@@ -31,7 +29,7 @@ row3 chars = ltb 514 (length chars)
 
 -- row 4: fewer than 4 characters, or the first is not S, or the type is not in the table
 unfoldable pub row4 : List ℕ → Bool
-row4 chars = ltb (length chars) 4 || not (eqb (getD chars 0 0) 83) || not (isKnown (kindOf (getD chars 1 0)))
+row4 chars = ltb (length chars) 4 || not (eqb (getD chars 0 0) (char "S")) || not (isKnown (kindOf (getD chars 1 0)))
 
 -- row 5: a character from the third on is no hex digit
 unfoldable pub row5 : List ℕ → Bool
@@ -45,12 +43,15 @@ row6 k n count =
 
 -- row 7, for the bytes of a record, count first: the checksum differs
 unfoldable pub row7 : List ℕ → Bool
-row7 bs = not (eqb (getD bs (getD bs 0 0) 0) (checksum (take (getD bs 0 0) bs)))
+row7 bs =
+    let count = getD bs 0 0 in
+    not (eqb (getD bs count 0) (checksum (take count bs)))
 
--- address and data of a kind's record, in its bytes
+-- the address of a kind's record, in its bytes
 unfoldable pub addressIn : Kind → List ℕ → ℕ
 addressIn k bs = number (take (width k) (drop 1 bs))
 
+-- the data bytes of a kind's record
 unfoldable pub dataIn : Kind → List ℕ → List ℕ
 dataIn k bs = take (getD bs 0 0 - (width k + 1)) (drop (width k + 1) bs)
 

@@ -1,77 +1,27 @@
--- The starred lines of 01, "Lines to try on both sides", and two more of them, as one table over the definitions of load and write.
-use Prim.Native.Nat.{ℕ, _≤_}
-use Prim.Native.String.{String}
-use Prim.Native.Char.{code}
-use mathlib.Core.Path.{_≡_}
-use mathlib.Core.Bool.{false}
-use mathlib.Core.List.{List, [], _∷_}
-use lib.ListN.{length}
-use Rattle.window.specs.declared.Refusal.{Refusal}
-use Rattle.window.specs.Windows.{Window, Allowed, Holds, row16}
-use Rattle.window.specs.Images.{Image}
-use Rattle.window.specs.Cells.{Cell, cells, shown}
-use Rattle.window.specs.Plans.{Entry, refusal}
-use Rattle.window.specs.Plans.Outcome.{refused, accepted}
-use Rattle.srec.specs.Canonical.{canonical}
-use Rattle.srec.specs.Load.{load}
-use Rattle.srec.specs.Write.{write}
-use Rattle.srec.specs.Write.WriteOutcome.{wrote}
-
--- the characters of a string
-abbrev pub codes : String → List ℕ
-codes = elim [ String.[] ↦ [] | String._∷_ c (s → r) ↦ code c ∷ r ]
-
--- ---- what the lines say
-
-pub data Result : Type 0 where
-  fails : Refusal → Result
-  -- header, entry, data records, and the cells by rising address
-  passes : List ℕ → Entry → ℕ → List Cell → Result
-
-pub data Case : Type 0 where
-  -- cells, header and entry: the canonical text
-  writes : List Cell → List ℕ → Entry → String → Case
-  -- a text, in any allowed window that holds these addresses: what its load gives
-  loads : String → List ℕ → Result → Case
-
-abbrev pub Gives : Result → Window → List ℕ → Type 0
-Gives (fails f) W text = load W text ≡ refused f
-Gives (passes h e r cs) W text =
-    (img : Image) × (load W text ≡ accepted (record { header = h; entry = e; records = r; cells = length cs }) img) × (cells (W .base) img ≡ cs)
-
-abbrev pub HoldsAll : Window → List ℕ → Type 0
-HoldsAll W [] = Unit {0}
-HoldsAll W (a ∷ addresses) = Holds W a × HoldsAll W addresses
-
--- what a case says, of every window
-abbrev pub Claim : Case → Type 0
-Claim (writes cs h e t) =
-    (W : Window) (room : ℕ) → Allowed W → row16 (W .marks) ≡ false → shown W ≡ cs
-    → length (codes t) ≤ room → write W h e room ≡ wrote (codes t)
-Claim (loads t addresses r) = (W : Window) → Allowed W → HoldsAll W addresses → Gives r W (codes t)
-
-abbrev pub All : List Case → Type 0
-All [] = Unit {0}
-All (c ∷ cs) = Claim c × All cs
-
--- ---- the table
-
-abbrev pub cell : ℕ → ℕ → Cell
-cell a b = record { addr = a; byte = b }
+-- Worked examples of load and write as one table over the definitions: the starred lines of 01, "Lines to try on both sides", and lines
+-- that show each other row, its place, and the order of the rows.
+use Prim.Native.Nat.{ℕ}
+use mathlib.Core.List.{List, [], _∷_, _++_}
+use lib.ListN.{replicate}
+use Rattle.lists.specs.Characters.{char, codes}
+use Rattle.window.specs.declared.Entry.the-variants.{Absent, Present}
+use Rattle.window.specs.Windows.{Window, windowOf}
+use Rattle.window.specs.Cells.{Cell}
+use Rattle.window.specs.Plans.{refusal}
+use Rattle.text.specs.Cases.{Result, Case, cell, block, row}
+use Rattle.text.specs.Cases.Result.{passes}
+use Rattle.text.specs.Cases.Case.{writes, declines, loads, rejects}
 
 -- the entry 0, so many data records and these cells
 abbrev pub holding : ℕ → List Cell → Result
-holding records cs = passes [] 0 records cs
+holding records cs = passes [] (Present 0) records cs
 
--- the row, the record, the place
-abbrev pub row : ℕ → ℕ → ℕ → Result
-row n record-number place = fails (refusal n record-number place)
-
-unfoldable pub table : List Case
-table =
-    writes (cell 0xFFFF 0xA5 ∷ cell 0x10000 0x5A ∷ []) [] 0xFFFF
-    "S0030000FC\nS20500FFFFA557\nS2050100005A9F\nS5030002FA\nS80400FFFFFD\n"
-    ∷ writes [] [] 0 "S0030000FC\nS5030000FC\nS9030000FC\n"
+-- the starred lines
+abbrev pub starred : List Case
+starred =
+    writes (cell 0xFFFF 0xA5 ∷ cell 0x10000 0x5A ∷ []) [] (Present 0xFFFF)
+    "S0030000FC\nS20500FFFFA557\nS2050100005A9F\nS5030002FA\nS80400FFFFFD\n" 65
+    ∷ writes [] [] (Present 0) "S0030000FC\nS5030000FC\nS9030000FC\n" 33
     ∷ loads "" [] (row 14 0 0)
     ∷ loads "S9030000FC" [] (holding 0 [])
     ∷ loads "S9030000fc" [] (holding 0 [])
@@ -83,7 +33,60 @@ table =
     ∷ loads "S1040000AA51\nS1040000AA51\n" (0 ∷ []) (row 13 2 13)
     ∷ loads "S1040000AA51\nS804000000FB\n" (0 ∷ []) (row 9 2 13)
     ∷ loads "S5030001FB" [] (row 10 1 0)
-    ∷ loads "S5030001FB\nS9030000FC\n" [] (row 10 1 0)
-    ∷ loads "S10200FD" [] (row 6 1 0)
-    ∷ loads "S9030000FC\nx" [] (row 2 2 11)
     ∷ []
+
+-- a line end that is CR; a header and an entry; a run of 17 cells, written in two records
+abbrev pub accepting : List Case
+accepting =
+    loads "S1040000AA51\rS9030000FC\r" (0 ∷ []) (holding 1 (cell 0 0xAA ∷ []))
+    ∷ loads "S0050000484969\nS9031234B6\n" [] (passes (0x48 ∷ 0x49 ∷ []) (Present 0x1234) 0 [])
+    ∷ writes (block 0 17 0x11) (0x48 ∷ 0x49 ∷ []) (Present 0)
+    "S0050000484969\nS113000011111111111111111111111111111111DC\nS104001011DA\nS5030002FA\nS9030000FC\n" 93
+    ∷ []
+
+-- a window of no cells, of one cell at the address a, and of three cells whose last mark is 2
+abbrev pub empty : Window
+empty = windowOf 0 [] []
+
+abbrev pub single : ℕ → Window
+single a = windowOf a (0 ∷ []) (0 ∷ [])
+
+abbrev pub marked-2 : Window
+marked-2 = windowOf 0 (7 ∷ 7 ∷ 7 ∷ []) (1 ∷ 0 ∷ 2 ∷ [])
+
+-- the loader's rows, each with its record and place; two of a line may hold, and the first is given
+abbrev pub refusing : List Case
+refusing =
+    rejects (windowOf 0 (7 ∷ []) []) (codes "") (refusal 1 0 0)
+    ∷ loads "S9030000FC\nx" [] (row 2 2 11)
+    ∷ rejects empty (replicate 515 (char "z")) (refusal 3 1 0)
+    ∷ rejects empty (replicate 514 (char "z")) (refusal 4 1 0)
+    ∷ loads "S10400x0AA51\nS9030000FC\n" [] (row 5 1 6)
+    ∷ loads "S1040000x" [] (row 5 1 8)
+    ∷ loads "S10200FD" [] (row 6 1 0)
+    ∷ loads "S904000000FB" [] (row 6 1 0)
+    ∷ loads "S504000000FB" [] (row 6 1 0)
+    ∷ loads "S9030000FD00" [] (row 6 1 0)
+    ∷ loads "S1030000FC\nS0030000FC\n" [] (row 8 2 11)
+    ∷ loads "S1040000AA51\nS205000001BB3E\n" (0 ∷ []) (row 9 2 13)
+    ∷ loads "S1030000FC\nS206FFFFFF1122C9\n" [] (row 9 2 11)
+    ∷ loads "S5030001FB\nS9030000FC\n" [] (row 10 1 0)
+    ∷ rejects empty (codes "S105FFFF1122C9\n") (refusal 11 1 0)
+    ∷ rejects (single 1) (codes "S1040000AA51\n") (refusal 12 1 0)
+    ∷ rejects (single 0) (codes "S1040001AA50\n") (refusal 12 1 0)
+    ∷ loads "S1030000FC\n" [] (row 14 1 11)
+    ∷ []
+
+-- the writer's rows and their order: in each line the rows behind the one given hold too, as far as they can
+abbrev pub declining : List Case
+declining =
+    declines (windowOf 0 (7 ∷ []) []) (replicate 253 0) Absent 0 (refusal 1 0 0)
+    ∷ declines marked-2 (replicate 253 0) Absent 0 (refusal 15 0 0)
+    ∷ declines marked-2 [] Absent 0 (refusal 16 0 2)
+    ∷ declines empty [] Absent 0 (refusal 18 0 0)
+    ∷ declines empty [] (Present 0) 32 (refusal 17 0 33)
+    ∷ []
+
+-- all of them
+unfoldable pub table : List Case
+table = starred ++ (accepting ++ (refusing ++ declining))

@@ -5,7 +5,8 @@
 use convert::Converted;
 use libc::STDIN_FILENO;
 use libc::STDOUT_FILENO;
-use srec::Loaded;
+use window::Entry;
+use window::Loaded;
 use window::Refusal;
 ghost use mathlib.Core.Path.{_≡_};
 ghost use Prim.Native.Nat.{_≤_, _<_};
@@ -65,6 +66,18 @@ fn print_refusal(refusal: Refusal) {
     io::print_decimal(STDOUT_FILENO, refusal.place as u64);
 }
 
+// The address of an entry, or that there is none.
+fn print_entry(entry: Entry) {
+    match entry {
+        Entry::Absent => {
+            io::write_all(STDOUT_FILENO, b"none");
+        }
+        Entry::Present(address) => {
+            io::print_hex(STDOUT_FILENO, address as u64, 8);
+        }
+    }
+}
+
 // Every field of a load's answer.
 fn print_answer(loaded: Loaded) {
     print_refusal(loaded.refusal);
@@ -73,7 +86,8 @@ fn print_answer(loaded: Loaded) {
     io::write_all(STDOUT_FILENO, b" cells ");
     io::print_decimal(STDOUT_FILENO, loaded.cells as u64);
     io::write_all(STDOUT_FILENO, b" entry ");
-    io::print_hex(STDOUT_FILENO, loaded.entry as u64, 8);
+    let entry = loaded.entry;
+    print_entry(entry);
     io::write_all(STDOUT_FILENO, b" header ");
     let header = loaded.header;
     let bytes = header.bytes;

@@ -1,16 +1,48 @@
-// A window of lent memory: cells, marks, and where data goes.
+// A window of lent memory: what is refused, and what a load and a write answer.
 ghost use mathlib.Core.Path.{_≡_};
-ghost use lib.ListN.{length, replicate};
+ghost use mathlib.Core.Bool.{not};
+ghost use Rattle.window.specs.Windows.{windowOf, row1};
 ghost use Rattle.window.specs.Plans.{refusal};
-ghost use Rattle.window.specs.Marks.{isFree, claimRow, claimed};
+
+// Behind the last address.
+const TOP: usize = 1 << 32;
 
 // Why and where something is refused. The reason is the row's number in docs/FORMAT.md, 0 for none.
-// A load's ordinal is the number of a record, from 1, and its place an index into the text; a write's
-// ordinal is 0, and its place the index of a mark (row 16) or the length needed (row 17).
+// A load's ordinal is the number of a record, from 1; 0 for row 1, and for row 14 how many records were read. Its
+// place is an index into the text. A write's ordinal is 0, and its place the index of a mark (row 16), the length
+// needed (row 17), or 0.
 pub struct Refusal {
     pub reason: u32,
     pub ordinal: usize,
     pub place: usize,
+}
+
+// The address where a program starts, if an image has one.
+pub enum Entry {
+    Absent,
+    Present(u32),
+}
+
+// The header's bytes; those from `len` on are zero.
+pub struct Header {
+    pub len: usize,
+    pub bytes: [u8; 252],
+}
+
+// The answer of a load: `records` counts the data records, `cells` their data bytes. An accepted load has a refusal of
+// zeros; a refused one has an empty header, no entry and zeros.
+pub struct Loaded {
+    pub refusal: Refusal,
+    pub header: Header,
+    pub entry: Entry,
+    pub records: usize,
+    pub cells: usize,
+}
+
+// The answer of a write: the text's length, or a refusal and length 0.
+pub struct Written {
+    pub refusal: Refusal,
+    pub length: usize,
 }
 
 // A refusal of these three numbers.
@@ -24,52 +56,12 @@ pub fn refuse(reason: u32, ordinal: usize, place: usize) -> Refusal
     }
 }
 
-// Sets every byte of a part to a value.
-pub fn fill(part: &mut [u8], value: u8)
-    ensures { λ _. ⌜ now (part .exit) ≡ replicate (length (now (part .entry))) value ⌝ }
+// Row 1 does not apply: there is a mark for each memory byte, and no cell behind the last address.
+pub fn is_allowed(base: u32, memory: &[u8], marks: &[u8]) -> bool
+    ensures { λ r. ⌜ r ≡ not (row1 (windowOf base (now (memory .entry)) (now (marks .entry)))) ⌝ }
 {
-    let mut i: usize = 0;
-    while i < part.len() {
-        part[i] = value;
-        i += 1;
+    if marks.len() != memory.len() {
+        return false;
     }
-}
-
-// Is no mark of a part set? It looks at each, with no way out before the end: that is faster.
-fn is_free(part: &[u8]) -> bool
-    ensures { λ r. ⌜ r ≡ isFree (now (part .entry)) ⌝ }
-{
-    let mut any: u8 = 0;
-    let mut i: usize = 0;
-    while i < part.len() {
-        any = any | part[i];
-        i += 1;
-    }
-    any == 0
-}
-
-// Rows 12 and 13 for `count` cells at an address: marks the cells and answers 0, or answers the row and marks nothing.
-pub fn claim(marks: &mut [u8], base: usize, address: usize, count: usize) -> u32
-    ensures answer { λ r. ⌜ r ≡ claimRow base (now (marks .entry)) address count ⌝ }
-    ensures marks { λ _. ⌜ now (marks .exit) ≡ claimed base (now (marks .entry)) address count ⌝ }
-{
-    if count == 0 {
-        return 0;
-    }
-    if address < base {
-        return 12;
-    }
-    let from = address - base;
-    if marks.len() < from {
-        return 12;
-    }
-    if marks.len() - from < count {
-        return 12;
-    }
-    let to = from + count;
-    if !is_free(&marks[from..to]) {
-        return 13;
-    }
-    fill(&mut marks[from..to], 1);
-    0
+    memory.len() <= TOP - base as usize
 }

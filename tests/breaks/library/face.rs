@@ -60,7 +60,8 @@ pub unsafe extern "C" fn srec_write(
     let cells = lent(memory, memory_len);
     let title = lent(header, header_len);
     let room = lent_mut(out, out_len);
-    let length = reading::write(base, cells, lent(marks, marks_len), title, entry, room).length;
+    let marks = lent(marks, marks_len);
+    let length = reading::write(base, cells, marks, title, Some(entry), room).length;
     // write ends
     length
 }

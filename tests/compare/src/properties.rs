@@ -89,7 +89,7 @@ fn each_content(
     let accepted = (0..).filter(|&index| aimed_number(index) == Some(0));
     for index in accepted.take(number as usize) {
         let random = &mut Random::new(seed, !index);
-        let (content, text) = accepted_text(seed, index, random);
+        let (content, text) = accepted_text(seed, index, random)?;
         property(&content, &text, random).map_err(|error| {
             let text = text.escape_ascii();
             format!("seed {seed}, index {index}: {error}\ntext \"{text}\"")
@@ -99,17 +99,18 @@ fn each_content(
 }
 
 /// A text that is accepted, with what it says by the second reading.
-fn accepted_text(seed: u64, index: u64, random: &mut Random) -> (Content, Vec<u8>) {
+fn accepted_text(seed: u64, index: u64, random: &mut Random) -> Result<(Content, Vec<u8>), String> {
     let limits = random.pick(&[FULL, SMALL]);
     let mut case = load_case(seed, index, limits);
     let (memory, marks) = (&mut case.memory, &mut case.marks);
     let loaded = reading::load(&case.text, case.base, memory, marks);
+    let no_entry = || format!("seed {seed}, index {index}: no entry");
     let content = Content {
         header: loaded.header[..loaded.header_len].to_vec(),
         cells: marked_cells(case.base, &case.memory, &case.marks),
-        entry: loaded.entry,
+        entry: loaded.entry.ok_or_else(no_entry)?,
     };
-    (content, case.text)
+    Ok((content, case.text))
 }
 
 fn marked_cells(base: u32, memory: &[u8], marks: &[u8]) -> BTreeMap<u64, u8> {
@@ -142,10 +143,10 @@ fn rewritten(content: &Content, text: &[u8], random: &mut Random) -> Result<Vec<
     marks.expect("marks", &wanted_marks)?;
     let loaded = reading::load(text, base, &mut wanted_memory, &mut wanted_marks);
     let header = &loaded.header[..loaded.header_len];
-    if header != content.header || loaded.entry != content.entry {
+    if header != content.header || loaded.entry != Some(content.entry) {
         return Err(format!("other content: {}", text.escape_ascii()));
     }
-    write(base, &memory, &marks, header, loaded.entry, random)
+    write(base, &memory, &marks, header, content.entry, random)
 }
 
 /// Writes a window into an output of the length that include/srec.h calls

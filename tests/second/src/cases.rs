@@ -32,7 +32,7 @@ pub struct WriteCase {
     pub memory: Vec<u8>,
     pub marks: Vec<u8>,
     pub header: Vec<u8>,
-    pub entry: u32,
+    pub entry: Option<u32>,
     pub room: usize,
 }
 
@@ -135,11 +135,13 @@ fn fits(text: &[u8], limits: Limits) -> bool {
 }
 
 fn open(random: &mut Random, limits: Limits) -> LoadCase {
-    match random.below(8) {
+    match random.below(9) {
         0..=2 => odd::mutated(random, limits),
         3 | 4 => odd::at_edges(random, limits),
         5 => odd::fixed(random, limits),
         6 => odd::scrambled(random, limits),
+        // Row 6 has more causes than any other.
+        7 => faulty::faulty(random, limits, Rows::of(&[6])),
         _ => {
             let rows = faulty::three_rows(random);
             faulty::faulty(random, limits, rows)

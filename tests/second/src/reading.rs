@@ -9,7 +9,7 @@ pub const HEADER_ROOM: usize = 252;
 /// The most characters a record can have.
 const LONGEST: usize = 514;
 
-/// Why a load was refused; all three are 0 for an accepted one.
+/// Why a load or a write was refused; all three are 0 for an accepted one.
 #[derive(Clone, Copy, Debug, Default, PartialEq, Eq)]
 pub struct Refusal {
     pub number: u32,
@@ -17,13 +17,14 @@ pub struct Refusal {
     pub place: usize,
 }
 
-/// The answer of the loader. After a refusal all but `refusal` is zero.
+/// The answer of the loader. After a refusal the entry is absent, and all else
+/// but `refusal` is zero.
 #[derive(Clone, Debug, PartialEq, Eq)]
 pub struct Loaded {
     pub refusal: Refusal,
     pub header_len: usize,
     pub header: [u8; HEADER_ROOM],
-    pub entry: u32,
+    pub entry: Option<u32>,
     pub records: usize,
     pub cells: usize,
 }
@@ -38,19 +39,17 @@ impl Loaded {
             },
             header_len: 0,
             header: [0; HEADER_ROOM],
-            entry: 0,
+            entry: None,
             records: 0,
             cells: 0,
         }
     }
 }
 
-/// The answer of the writer: number 0 and the text's length, or a refusal with
-/// length 0.
+/// The answer of the writer: the text's length, which is 0 after a refusal.
 #[derive(Clone, Copy, Debug, PartialEq, Eq)]
 pub struct Written {
-    pub number: u32,
-    pub place: usize,
+    pub refusal: Refusal,
     pub length: usize,
 }
 
@@ -79,7 +78,7 @@ pub fn load(text: &[u8], base: u32, memory: &mut [u8], marks: &mut [u8]) -> Load
         refusal: Refusal::default(),
         header_len: reader.header.len(),
         header,
-        entry,
+        entry: Some(entry),
         records: reader.data_records,
         cells,
     }
@@ -380,12 +379,16 @@ pub fn write(
     memory: &[u8],
     marks: &[u8],
     header: &[u8],
-    entry: u32,
+    entry: Option<u32>,
     out: &mut [u8],
 ) -> Written {
+    // No refusal of the writer is about a record.
     let refused = |number, place| Written {
-        number,
-        place,
+        refusal: Refusal {
+            number,
+            record: 0,
+            place,
+        },
         length: 0,
     };
     if row_1(base, memory.len(), marks.len()) {
@@ -397,19 +400,22 @@ pub fn write(
     if let Some(index) = marks.iter().position(|&mark| mark > 1) {
         return refused(16, index);
     }
+    let Some(entry) = entry else {
+        return refused(18, 0);
+    };
     let text = canonical(base, memory, marks, header, entry);
     if text.len() > out.len() {
         return refused(17, text.len());
     }
     out[..text.len()].copy_from_slice(&text);
     Written {
-        number: 0,
-        place: 0,
+        refusal: Refusal::default(),
         length: text.len(),
     }
 }
 
-/// The canonical text, for arguments to which rows 1, 15 and 16 do not apply.
+/// The canonical text, for an entry that is present and other arguments to
+/// which rows 1, 15 and 16 do not apply.
 pub fn canonical(base: u32, memory: &[u8], marks: &[u8], header: &[u8], entry: u32) -> Vec<u8> {
     let rows = rows_of_cells(base, memory, marks);
     let last_cell = rows

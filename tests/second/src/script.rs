@@ -47,13 +47,8 @@ impl Case {
         let header = &loaded.header[..loaded.header_len];
         let mut out = vec![0; ROOM];
         let written = write(self.base, &memory, &marks, header, loaded.entry, &mut out);
-        if written.number != 0 {
-            let refusal = Refusal {
-                number: written.number,
-                record: 0,
-                place: written.place,
-            };
-            printed += &(refusal_words(&refusal) + "\n");
+        if written.refusal.number != 0 {
+            printed += &(refusal_words(&written.refusal) + "\n");
         }
         [printed.as_bytes(), &out[..written.length]].concat()
     }
@@ -89,17 +84,22 @@ fn refusal_words(refusal: &Refusal) -> String {
     format!("{number} record {record} at {place}")
 }
 
+/// Eight digits, or a word for an entry that is absent.
+fn entry_words(entry: Option<u32>) -> String {
+    entry.map_or("none".to_string(), |entry| format!("{entry:08x}"))
+}
+
 /// Every field of the answer, the header without the zeros at its end.
 fn answer_line(loaded: &Loaded) -> String {
     let end = loaded.header.iter().rposition(|&byte| byte != 0);
     let header = &loaded.header[..end.map_or(0, |last| last + 1)];
     let header: String = header.iter().map(|byte| format!("{byte:02x}")).collect();
     format!(
-        "{} records {} cells {} entry {:08x} header {}:{header}\n",
+        "{} records {} cells {} entry {} header {}:{header}\n",
         refusal_words(&loaded.refusal),
         loaded.records,
         loaded.cells,
-        loaded.entry,
+        entry_words(loaded.entry),
         loaded.header_len,
     )
 }

@@ -47,18 +47,70 @@ fn every_load_refusal_and_pair() {
 
 #[test]
 fn every_write_refusal() {
-    let mut numbers = BTreeMap::new();
+    let (mut numbers, mut absent) = (BTreeMap::new(), BTreeMap::new());
     for index in 0..CASES {
         let case = write_case(1, index, FULL);
         let mut out = vec![0; case.room];
         let (memory, marks) = (&case.memory, &case.marks);
         let written = write(case.base, memory, marks, &case.header, case.entry, &mut out);
-        assert_eq!(written.number, aimed_write_number(index), "case {index}");
-        *numbers.entry(written.number).or_insert(0) += 1;
+        let number = written.refusal.number;
+        assert_eq!(number, aimed_write_number(index), "case {index}");
+        *numbers.entry(number).or_insert(0) += 1;
+        if case.entry.is_none() {
+            // No text has fewer than 33 characters, whatever its entry is.
+            *absent.entry((number, case.room < 33)).or_insert(0) += 1;
+        }
     }
     println!("write refusals: {numbers:?}");
+    println!("without an entry, and whether row 17 would apply: {absent:?}");
     let found: Vec<u32> = numbers.into_keys().collect();
-    assert_eq!(found, [0, 1, 15, 16, 17]);
+    assert_eq!(found, [0, 1, 15, 16, 17, 18]);
+    // Row 18 gives way to those before it, and comes before row 17.
+    let wanted = [1, 15, 16, 18].into_iter();
+    let wanted: Vec<(u32, bool)> = wanted.flat_map(|n| [(n, false), (n, true)]).collect();
+    let found: Vec<(u32, bool)> = absent.into_keys().collect();
+    assert_eq!(found, wanted);
+}
+
+/// The types without data have one right count. A record with one less or one
+/// more, but of that length and with the right checksum, must come up often.
+#[test]
+fn wrong_counts_of_types_without_data() {
+    for limits in [SMALL, FULL] {
+        let mut found = BTreeMap::new();
+        for index in 0..CASES {
+            let mut case = load_case(1, index, limits);
+            let (memory, marks) = (&mut case.memory, &mut case.marks);
+            let refusal = load(&case.text, case.base, memory, marks).refusal;
+            if refusal.number != 6 {
+                continue;
+            }
+            let rows = rows_of_refused_record(&case.text, case.base, case.memory.len());
+            let mut lines = case.text[refusal.place..].split(|&c| c == b'\r' || c == b'\n');
+            let line = std::str::from_utf8(lines.next().unwrap()).unwrap();
+            let (kind, count) = (&line[1..2], usize::from_str_radix(&line[2..4], 16).unwrap());
+            let right = match kind {
+                "5" | "9" => 3,
+                "8" => 4,
+                "7" => 5,
+                _ => continue,
+            };
+            let else_right = line.len() == 4 + 2 * count && !rows.contains(&7);
+            if else_right && count.abs_diff(right) == 1 {
+                *found.entry((kind.to_string(), count)).or_insert(0) += 1;
+            }
+        }
+        println!("type and count: {found:?}");
+        for (kind, right) in [("5", 3), ("7", 5), ("8", 4), ("9", 3)] {
+            for count in [right - 1, right + 1] {
+                let times = found.get(&(kind.to_string(), count));
+                assert!(
+                    times.is_some_and(|&n| n >= 20),
+                    "S{kind} with count {count}"
+                );
+            }
+        }
+    }
 }
 
 #[test]

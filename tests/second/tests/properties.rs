@@ -4,7 +4,7 @@
 use second::cases::{
     large_load_cases, large_write_cases, load_case, write_case, LoadCase, WriteCase, FULL, SMALL,
 };
-use second::reading::{load, write, Loaded};
+use second::reading::{load, write, Loaded, Refusal};
 use std::collections::BTreeMap;
 
 /// What a text says, read with no regard to rows or windows.
@@ -12,7 +12,7 @@ use std::collections::BTreeMap;
 struct Image {
     header: Vec<u8>,
     cells: BTreeMap<u64, u8>,
-    entry: u64,
+    entry: Option<u64>,
     records: usize,
 }
 
@@ -35,7 +35,7 @@ fn image(text: &[u8]) -> Image {
         match &line[1..2] {
             "0" => image.header = data,
             "5" => {}
-            "7" | "8" | "9" => image.entry = address,
+            "7" | "8" | "9" => image.entry = Some(address),
             _ => {
                 image.records += 1;
                 image.cells.extend((address..).zip(data));
@@ -46,7 +46,13 @@ fn image(text: &[u8]) -> Image {
 }
 
 /// The image of a window.
-fn window_image(base: u32, memory: &[u8], marks: &[u8], header: &[u8], entry: u32) -> Image {
+fn window_image(
+    base: u32,
+    memory: &[u8],
+    marks: &[u8],
+    header: &[u8],
+    entry: Option<u32>,
+) -> Image {
     let addresses = u64::from(base)..;
     let cells = addresses.zip(memory.iter().zip(marks));
     Image {
@@ -55,7 +61,7 @@ fn window_image(base: u32, memory: &[u8], marks: &[u8], header: &[u8], entry: u3
             .filter(|(_, (_, &mark))| mark == 1)
             .map(|(address, (&byte, _))| (address, byte))
             .collect(),
-        entry: u64::from(entry),
+        entry: entry.map(u64::from),
         records: 0,
     }
 }
@@ -64,7 +70,7 @@ fn write_all(base: u32, memory: &[u8], marks: &[u8], loaded: &Loaded) -> Vec<u8>
     let header = &loaded.header[..loaded.header_len];
     let mut out = vec![0; 600 + 17 * memory.len()];
     let written = write(base, memory, marks, header, loaded.entry, &mut out);
-    assert_eq!((written.number, written.place), (0, 0));
+    assert_eq!(written.refusal, Refusal::default());
     out.truncate(written.length);
     out
 }
@@ -76,6 +82,7 @@ fn check_load(case: &LoadCase) -> bool {
     if loaded.refusal.number != 0 {
         assert_eq!(memory, case.memory);
         assert!(marks.iter().all(|&mark| mark == 0));
+        assert_eq!(loaded.entry, None);
         return false;
     }
     let header = &loaded.header[..loaded.header_len];
@@ -144,9 +151,10 @@ fn check_write(case: &WriteCase) -> Vec<u8> {
     let written = write(base, memory, marks, &case.header, case.entry, room);
     assert_eq!(after, [0xE7; 8]);
     assert!(room[written.length..].iter().all(|&byte| byte == 0xE7));
-    assert_eq!(written.number == 0, written.length > 0);
+    assert_eq!(written.refusal.number == 0, written.length > 0);
+    assert_eq!(written.refusal.record, 0);
     let text = room[..written.length].to_vec();
-    if written.number == 0 {
+    if written.refusal.number == 0 {
         let mut wanted = window_image(base, memory, marks, &case.header, case.entry);
         let found = image(&text);
         wanted.records = found.records;
@@ -164,7 +172,8 @@ fn check_form(text: &[u8], found: &Image) {
         .cells
         .last_key_value()
         .map_or(0, |(&address, _)| address);
-    let bits = 64 - last_cell.max(found.entry).leading_zeros();
+    let entry = found.entry.unwrap();
+    let bits = 64 - last_cell.max(entry).leading_zeros();
     let (data, end) = match bits {
         0..=16 => ('1', '9'),
         17..=24 => ('2', '8'),

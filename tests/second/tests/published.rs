@@ -102,7 +102,7 @@ fn refused(text: &str, wanted: (u32, usize, usize)) {
     } = outcome.loaded;
     assert_eq!((refusal.number, refusal.record, refusal.place), wanted);
     assert_eq!((header_len, header), (0, [0; 252]));
-    assert_eq!((entry, records, cells), (0, 0, 0));
+    assert_eq!((entry, records, cells), (None, 0, 0));
     assert!(outcome.memory.iter().all(|&byte| byte == 0xEE));
     assert!(outcome.marks.iter().all(|&mark| mark == 0));
 }
@@ -120,7 +120,7 @@ fn accepted(text: &str, told: (&str, u32, usize, usize), wanted: &str) {
     assert_eq!(&loaded.header[..loaded.header_len], header);
     assert_eq!(
         (loaded.entry, loaded.records, loaded.cells),
-        (entry, records, cells)
+        (Some(entry), records, cells)
     );
     let written = canonical(0, &outcome.memory, &outcome.marks, header, entry);
     assert_eq!(String::from_utf8(written).unwrap(), wanted);
@@ -230,7 +230,8 @@ fn academy() {
     let outcome = load_text(&text);
     let loaded = &outcome.loaded;
     assert_eq!(&loaded.header[..loaded.header_len], title.as_bytes());
-    assert_eq!((loaded.entry, loaded.records, loaded.cells), (0, 30, 883));
+    let counts = (loaded.records, loaded.cells);
+    assert_eq!((loaded.entry, counts), (Some(0), (30, 883)));
     let prose = PROSE.replace('\n', "\r\n");
     assert_eq!(prose.len(), 883);
     assert_eq!(&outcome.memory[..883], prose.as_bytes());

@@ -1,18 +1,9 @@
 -- `srec_load` meets its contract: what the library function answers and leaves.
 use mathlib.Core.Path.{ap}
-use Rattle.srec.specs.declared.Loaded.{Loaded}
+use Rattle.window.specs.declared.Loaded.{Loaded}
 use borrow.Author.Needs.{needs}
 use Rattle.capi.proofs.srec_load.Statement.{statement}
 use Rattle.capi.proofs.srec_load.Tie as tie
-
-load-requires : tie.Need-load-requires
-load-requires c κs = search needs
-
-same-length : tie.Need-same-length
-same-length c = search needs
-
-same-length-2 : tie.Need-same-length-2
-same-length-2 c = search needs
 
 returns : tie.Need-returns
 returns c =
@@ -20,4 +11,4 @@ returns c =
     (ap (λ (x : Loaded). x .refusal .reason) (l .0), l .1)
 
 pub srec-load-spec : {M : Type 1} → statement M
-srec-load-spec = tie.close (tie.spec load-requires same-length same-length-2 returns)
+srec-load-spec = tie.close (tie.spec (λ c κs. search needs) (λ c. search needs) (λ c. search needs) returns)

@@ -1,31 +1,24 @@
--- `convert` meets its contract: each way out is one law of ConvertLaws.
+-- `convert` meets its contract: each way out is one law of ConvertLaws, and memory and marks are as the load left them.
 use mathlib.Core.Path.{sym, ap, _∙_}
 use lib.ListN.{length}
 use lib.Seq.{length-take-le}
-use Rattle.srec.specs.declared.Loaded.{Loaded}
-use Rattle.srec.specs.declared.Written.{Written}
-use Rattle.srec.specs.Terms.{Accepted}
+use Rattle.window.specs.declared.Loaded.{Loaded}
+use Rattle.window.specs.declared.Written.{Written}
+use Rattle.text.specs.Terms.{Accepted}
+use Rattle.srec.specs.Formats.{srec}
 use Rattle.window.specs.Windows.{windowOf}
 use Rattle.convert.proofs.ConvertLaws.{header-fits, written-is, load-refused, write-refused, text-written}
 use borrow.Author.Needs.{needs}
 use Rattle.convert.proofs.convert.Statement.{statement}
 use Rattle.convert.proofs.convert.Tie as tie
 
-load-requires : tie.Need-load-requires
-load-requires c κs = search needs
-
-same-length : tie.Need-same-length
-same-length c = search needs
-
-same-length-2 : tie.Need-same-length-2
-same-length-2 c = search needs
-
 returns : tie.Need-returns
 returns c =
     let s = c .before .before .before .before .before .before .before .before .before .before .before .before .before .before in
     let l = c .before .before .before .before .before .before .before .load in
     let W = windowOf (s .args .base) (s .args .memory .now) (s .args .marks .now) in
-    load-refused W (s .args .text .now) (s .args .out .now) _ (ap (λ (x : Loaded). x .refusal) (l .ensures .0)) (c .if1 .taken)
+    let r = load-refused W (s .args .text .now) (s .args .out .now) _ (ap (λ (x : Loaded). x .refusal) (l .ensures .0)) (c .if1 .taken) in
+    (r .0, (l .ensures .1 .0, (l .ensures .1 .1, r .1)))
 
 array-share-prefix-bytes : tie.Need-array-share-prefix-bytes
 array-share-prefix-bytes c =
@@ -42,18 +35,6 @@ slice-aggregate-write c =
     let W = windowOf (s .args .base) (s .args .memory .now) (s .args .marks .now) in
     sym (length-take-le _ _ (rw (l .ensures .0) (header-fits W (s .args .text .now))))
 
-write-requires : tie.Need-write-requires
-write-requires c κs = search needs
-
-same-length-3 : tie.Need-same-length-3
-same-length-3 c = search needs
-
-same-length-4 : tie.Need-same-length-4
-same-length-4 c = search needs
-
-same-length-5 : tie.Need-same-length-5
-same-length-5 c = search needs
-
 returns-2 : tie.Need-returns-2
 returns-2 c =
     let at-write = c .before .before .before .before .before in
@@ -62,21 +43,12 @@ returns-2 c =
     let s = at-load .before .before .before .before .before .before .before in
     let l = at-load .load in
     let W = windowOf (s .args .base) (s .args .memory .now) (s .args .marks .now) in
-    let a : Accepted W (s .args .text .now) = sym (ap (λ (x : Loaded). x .refusal .reason) (l .ensures .0)) ∙ at-if1 .if1 .left in
+    let a : Accepted srec W (s .args .text .now) = sym (ap (λ (x : Loaded). x .refusal .reason) (l .ensures .0)) ∙ at-if1 .if1 .left in
     let w = at-write .write in
     let is = written-is W (s .args .text .now) (length (s .args .out .now)) (l .result) _ _ (l .ensures .0) (l .ensures .1 .0)
     (l .ensures .1 .1) in
-    write-refused W (s .args .text .now) (s .args .out .now) a _ is _ _ (ap (λ (x : Written). x .refusal) (w .ensures .0)) (c .if2 .taken)
-    (w .ensures .1)
-
-same-length-6 : tie.Need-same-length-6
-same-length-6 c = search needs
-
-same-length-7 : tie.Need-same-length-7
-same-length-7 c = search needs
-
-same-length-8 : tie.Need-same-length-8
-same-length-8 c = search needs
+    let r = write-refused W (s .args .text .now) (s .args .out .now) a _ is _ _ (ap (λ (x : Written). x .refusal) (w .ensures .0)) (c .if2 .taken) (w .ensures .1) in
+    (r .0, (l .ensures .1 .0, (l .ensures .1 .1, r .1)))
 
 returns-3 : tie.Need-returns-3
 returns-3 c =
@@ -86,30 +58,31 @@ returns-3 c =
     let s = at-load .before .before .before .before .before .before .before in
     let l = at-load .load in
     let W = windowOf (s .args .base) (s .args .memory .now) (s .args .marks .now) in
-    let a : Accepted W (s .args .text .now) = sym (ap (λ (x : Loaded). x .refusal .reason) (l .ensures .0)) ∙ at-if1 .if1 .left in
+    let a : Accepted srec W (s .args .text .now) = sym (ap (λ (x : Loaded). x .refusal .reason) (l .ensures .0)) ∙ at-if1 .if1 .left in
     let w = at-write .write in
     let is = written-is W (s .args .text .now) (length (s .args .out .now)) (l .result) _ _ (l .ensures .0) (l .ensures .1 .0)
     (l .ensures .1 .1) in
-    text-written W (s .args .text .now) (s .args .out .now) a _ is _ _
+    let r = text-written W (s .args .text .now) (s .args .out .now) a _ is _ _
     (sym (ap (λ (x : Written). x .refusal .reason) (w .ensures .0)) ∙ c .if2 .left) (ap (λ (x : Written). x .length) (w .ensures .0))
-    (w .ensures .1)
+    (w .ensures .1) in
+    (r .0, (l .ensures .1 .0, (l .ensures .1 .1, r .1)))
 
 pub convert-spec : {M : Type 1} → statement M
 convert-spec =
     tie.close
     (tie.spec
-    load-requires
-    same-length
-    same-length-2
+    (λ c κs. search needs)
+    (λ c. search needs)
+    (λ c. search needs)
     returns
     array-share-prefix-bytes
     slice-aggregate-write
-    write-requires
-    same-length-3
-    same-length-4
-    same-length-5
+    (λ c κs. search needs)
+    (λ c. search needs)
+    (λ c. search needs)
+    (λ c. search needs)
     returns-2
-    same-length-6
-    same-length-7
-    same-length-8
+    (λ c. search needs)
+    (λ c. search needs)
+    (λ c. search needs)
     returns-3)

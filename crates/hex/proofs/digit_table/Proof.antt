@@ -5,7 +5,7 @@ use mathlib.Core.List.{List, _++_}
 use lib.ListN.{drop, replicate}
 use native.Mathlib.Omega.{arith}
 use Rattle.hex.specs.Tables.{digitOr16, tableFrom, digitTable}
-use Rattle.hex.proofs.TableLaws.{table-more}
+use Rattle.hex.proofs.DigitTableLaws.{table-more}
 use borrow.Author.Needs.{needs}
 use Rattle.hex.proofs.digit_table.Statement.{statement}
 use Rattle.hex.proofs.digit_table.Tie as tie
@@ -22,21 +22,6 @@ abbrev μ-loop : tie.MeasureT-loop
 
 loop-holds : tie.Need-loop-holds Inv-loop μ-loop
 loop-holds c = (omega arith, refl)
-
-cast-digit-of : tie.Need-cast-digit-of Inv-loop μ-loop
-cast-digit-of c = search needs
-
-digit-of-requires : tie.Need-digit-of-requires Inv-loop μ-loop
-digit-of-requires c κs = search needs
-
-array-write-table : tie.Need-array-write-table Inv-loop μ-loop
-array-write-table c = search needs
-
-add-i : tie.Need-add-i Inv-loop μ-loop
-add-i c = search needs
-
-loop-less : tie.Need-loop-less Inv-loop μ-loop
-loop-less c = search needs
 
 loop-again : tie.Need-loop-again Inv-loop μ-loop
 loop-again c =
@@ -58,10 +43,10 @@ digit-table-spec =
     Inv-loop
     μ-loop
     loop-holds
-    cast-digit-of
-    digit-of-requires
-    array-write-table
-    add-i
-    loop-less
+    (λ c. search needs)
+    (λ c κs. search needs)
+    (λ c. search needs)
+    (λ c. search needs)
+    (λ c. search needs)
     loop-again
     returns)

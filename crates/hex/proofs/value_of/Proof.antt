@@ -3,13 +3,10 @@ use mathlib.Core.Path.{refl}
 use Prim.Native.Nat.{_<_}
 use native.Mathlib.Omega.{arith}
 use Rattle.hex.proofs.DigitLaws.{value-small}
-use Rattle.hex.proofs.TableLaws.{digit-at, entry-value}
+use Rattle.hex.proofs.DigitTableLaws.{digit-at, entry-value}
 use borrow.Author.Needs.{needs}
 use Rattle.hex.proofs.value_of.Statement.{statement}
 use Rattle.hex.proofs.value_of.Tie as tie
-
-element-copy-out-result : tie.Need-element-copy-out-result
-element-copy-out-result c = search needs
 
 returns : tie.Need-returns
 returns c =
@@ -17,4 +14,4 @@ returns c =
     rw (c .before .pre, digit-at (c .before .args .c) h, entry-value (c .before .args .c)) (refl, value-small (c .before .args .c))
 
 pub value-of-spec : {M : Type 1} → statement M
-value-of-spec = tie.close (tie.spec element-copy-out-result returns)
+value-of-spec = tie.close (tie.spec (λ c. search needs) returns)

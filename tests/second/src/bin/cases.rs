@@ -59,7 +59,7 @@ fn load_line(seed: u64, index: u64) -> String {
         ("record", loaded.refusal.record.to_string()),
         ("place", loaded.refusal.place.to_string()),
         ("header", array(&loaded.header[..loaded.header_len])),
-        ("entry", loaded.entry.to_string()),
+        ("entry", entry(loaded.entry)),
         ("records", loaded.records.to_string()),
         ("cells", loaded.cells.to_string()),
         ("memory_after", array(&memory)),
@@ -83,12 +83,18 @@ fn write_line(seed: u64, index: u64) -> String {
         ("memory", array(&case.memory)),
         ("marks", array(&case.marks)),
         ("header", array(&case.header)),
-        ("entry", case.entry.to_string()),
+        ("entry", entry(case.entry)),
         ("room", case.room.to_string()),
-        ("number", written.number.to_string()),
-        ("place", written.place.to_string()),
+        ("number", written.refusal.number.to_string()),
+        ("record", written.refusal.record.to_string()),
+        ("place", written.refusal.place.to_string()),
         ("text_out", array(&out[..written.length])),
     ])
+}
+
+/// An absent entry is null.
+fn entry(entry: Option<u32>) -> String {
+    entry.map_or("null".to_string(), |entry| entry.to_string())
 }
 
 fn object(fields: &[(&str, String)]) -> String {

@@ -69,7 +69,7 @@ fn isolated(random: &mut Random, base: u32, number: usize, missing: usize) -> Wr
         memory,
         marks,
         header,
-        entry,
+        entry: Some(entry),
         room: needed - missing,
     }
 }

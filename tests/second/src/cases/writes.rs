@@ -5,15 +5,15 @@ use crate::random::Random;
 use crate::reading::canonical;
 
 /// The refusals of the writer in the order in which they are tried.
-const ROWS: [u32; 4] = [1, 15, 16, 17];
+const ROWS: [u32; 5] = [1, 15, 16, 18, 17];
 
 /// The rows a case is made for: each alone or none in turn, then every set.
 pub fn aim(index: u64) -> Vec<u32> {
     let turn = index / 2;
     if index.is_multiple_of(2) {
-        return ROWS.get((turn % 5) as usize).copied().into_iter().collect();
+        return ROWS.get((turn % 6) as usize).copied().into_iter().collect();
     }
-    let chosen = |&(bit, _): &(usize, u32)| (turn % 16) & (1 << bit) != 0;
+    let chosen = |&(bit, _): &(usize, u32)| (turn % 32) & (1 << bit) != 0;
     let numbered = ROWS.into_iter().enumerate();
     numbered.filter(chosen).map(|(_, row)| row).collect()
 }
@@ -33,7 +33,7 @@ pub fn case(random: &mut Random, limits: Limits, rows: &[u32]) -> WriteCase {
         memory: random.bytes(length),
         marks: marks(random, low, length),
         header: header(random, rows.contains(&15)),
-        entry: entry(random),
+        entry: entry(random, rows.contains(&18)),
         room: 0,
     };
     if rows.contains(&16) {
@@ -80,8 +80,8 @@ fn header(random: &mut Random, too_long: bool) -> Vec<u8> {
     random.bytes(length)
 }
 
-/// Entries at the ends of the widths and anywhere.
-fn entry(random: &mut Random) -> u32 {
+/// Entries at the ends of the widths and anywhere, or none.
+fn entry(random: &mut Random, absent: bool) -> Option<u32> {
     let bits = random.size(1, 32);
     let any = random.word() as u32 >> (32 - bits);
     let ends = [
@@ -95,7 +95,8 @@ fn entry(random: &mut Random) -> u32 {
         any,
         any,
     ];
-    random.pick(&ends)
+    let entry = random.pick(&ends);
+    (!absent).then_some(entry)
 }
 
 /// One mark above 1, and sometimes another after it.
@@ -123,17 +124,15 @@ fn spoil_window(random: &mut Random, case: &mut WriteCase, keep_marks: bool) {
 
 /// Room enough, often just enough, or too little for row 17.
 fn room(random: &mut Random, case: &WriteCase, rows: &[u32]) -> usize {
-    let needed = if rows.iter().any(|&row| row < 17) {
+    let (memory, marks) = (&case.memory, &case.marks);
+    let needed = match case.entry {
+        Some(entry) if rows.iter().all(|&row| row == 17) => {
+            canonical(case.base, memory, marks, &case.header, entry).len()
+        }
         // There is no text to measure. The shortest of all has 33 characters,
         // and each cell makes at most one record of 17.
-        if rows.contains(&17) {
-            33
-        } else {
-            700 + 17 * case.memory.len()
-        }
-    } else {
-        let (memory, marks) = (&case.memory, &case.marks);
-        canonical(case.base, memory, marks, &case.header, case.entry).len()
+        _ if rows.contains(&17) => 33,
+        _ => 700 + 17 * memory.len(),
     };
     if rows.contains(&17) {
         let less = random.size(0, needed - 1);

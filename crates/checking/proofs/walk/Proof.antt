@@ -1,0 +1,165 @@
+-- `walk` meets its contract. The loop's invariant: what is left to walk gives what the whole gives, and the marks show its image.
+-- Each way out and each way round is one law of CheckLaws.
+use mathlib.Core.Path.{_≡_, refl, sym, _∙_}
+use Prim.Native.Nat.{_-_, _^_}
+use native.Mathlib.Omega.{arith}
+use lib.ListN.{length}
+use Rattle.text.proofs.FindLaws.{Next, next-is}
+use Rattle.srec.specs.Lines.{isEnd}
+use Rattle.srec.specs.Formats.{srec}
+use Rattle.srec.proofs.SrecFormatLaws.{lawful}
+use Rattle.srec_read.proofs.JudgeLaws.{counting}
+use Rattle.checking.proofs.CheckLaws.{Going, going-start, tidy-now, row-14, fits, told-refused, last-few, told-ended, going-pass, told-claim, going-put}
+use borrow.Author.Needs.{needs}
+use Rattle.checking.proofs.walk.Statement.{statement}
+use Rattle.checking.proofs.walk.Tie as tie
+
+abbrev Inv-loop : tie.InvT-loop
+Inv-loop table text base form marks₀ cells state₀ at₀ marks state at = (length marks ≡ length marks₀) × Going srec form text base cells marks state at
+
+abbrev μ-loop : tie.MeasureT-loop
+μ-loop table text base form marks₀ cells state₀ at₀ marks state at = length text - at
+
+-- places: the loop's head before the line at hand, and that line before its step
+abbrev head : tie.After-found Inv-loop μ-loop → tie.At-loop Inv-loop μ-loop
+head c = c .before .before .before
+
+abbrev line : tie.After-step-of Inv-loop μ-loop → tie.After-found Inv-loop μ-loop
+line c = c .before .before .before .before
+
+-- the line at hand
+next-at : (c : tie.After-found Inv-loop μ-loop) → Next isEnd (c .before .before .before .before .before .before .before .args .text .now) (head c .loop .at) (c .found .given .0 .0) (c .found .given .0 .1 .0)
+next-at c = next-is isEnd _ _ _ _ (head c .loop .inv .1 .walk .inside) (sym (c .found .given .1) ∙ c .before .before .next-record .ensures)
+
+loop-holds : tie.Need-loop-holds Inv-loop μ-loop
+loop-holds c = (refl, rw (c .start .ensures) (going-start srec _ _ _ _ _ (c .before .before .before .pre .1)))
+
+next-record-requires : tie.Need-next-record-requires Inv-loop μ-loop
+next-record-requires c κs = c .loop .inv .1 .walk .inside
+
+same-length : tie.Need-same-length Inv-loop μ-loop
+same-length c = c .before .before .before .before .loop .inv .0
+
+returns : tie.Need-returns Inv-loop μ-loop
+returns c =
+    let at-next-record = c .before .before .before in
+    rw (c .refuse .ensures) (row-14 lawful counting (at-next-record .before .loop .inv .1) _
+    (sym (c .before .enum-told .given .1) ∙ at-next-record .next-record .ensures))
+
+add-number : tie.Need-add-number Inv-loop μ-loop
+add-number c = let x = next-at (c .before .before) in let l = head (c .before .before) .loop in record { fits = omega (arith, l .inv .1 .few .0, x .low, x .some-chars, x .high) }
+
+sub-step-of : tie.Need-sub-step-of Inv-loop μ-loop
+sub-step-of c = omega (arith, next-at (c .before .before) .some-chars)
+
+part-step-of-start : tie.Need-part-step-of-start Inv-loop μ-loop
+part-step-of-start c = omega (arith, next-at (c .before .before) .some-chars, next-at (c .before .before) .high)
+
+part-step-of-end : tie.Need-part-step-of-end Inv-loop μ-loop
+part-step-of-end c = omega (arith, next-at (c .before .before) .high)
+
+step-of-requires : tie.Need-step-of-requires Inv-loop μ-loop
+step-of-requires c κs =
+    let at-found = c .before .before .before in
+    let s = head at-found .before .before .before .before in
+    let f = fits lawful counting (head at-found .loop .inv .1) (next-at at-found) (2 ^ 64) (omega arith) in
+    ((s .pre .0, f .0), f .1)
+
+same-length-2 : tie.Need-same-length-2 Inv-loop μ-loop
+same-length-2 c = head (line (c .before .before .before .before)) .loop .inv .0
+
+returns-2 : tie.Need-returns-2 Inv-loop μ-loop
+returns-2 c =
+    let j = c .before .before .before .before in
+    rw (c .refuse2 .ensures) (told-refused lawful counting (head (line j) .loop .inv .1) (next-at (line j)) (j .step-of .ensures) _ (c .before .before .step .given .1))
+
+ended-requires : tie.Need-ended-requires Inv-loop μ-loop
+ended-requires c κs =
+    let j = c .before .before .before in
+    (next-at (line j) .high, last-few lawful counting (head (line j) .loop .inv .1) (next-at (line j)) (j .step-of .ensures) (c .before .step2 .given .1))
+
+same-length-3 : tie.Need-same-length-3 Inv-loop μ-loop
+same-length-3 c = head (line (c .before .before .before .before)) .loop .inv .0
+
+returns-3 : tie.Need-returns-3 Inv-loop μ-loop
+returns-3 c =
+    let j = c .before .before .before .before in
+    rw (c .ended .ensures) (told-ended lawful counting (head (line j) .loop .inv .1) (next-at (line j)) (j .step-of .ensures) (c .before .before .step2 .given .1) _ refl)
+
+loop-less : tie.Need-loop-less Inv-loop μ-loop
+loop-less c = let x = next-at (line (c .before .before .before)) in omega (arith, x .low, x .some-chars, x .high)
+
+loop-again : tie.Need-loop-again Inv-loop μ-loop
+loop-again c =
+    let j = c .before .before .before in
+    let l = head (line j) .loop in
+    (l .inv .0, going-pass lawful counting (l .inv .1) (next-at (line j)) (j .step-of .ensures) (c .before .step3 .given .1))
+
+claim-requires : tie.Need-claim-requires Inv-loop μ-loop
+claim-requires c κs = tidy-now lawful counting (head (line (c .before .before .before .before)) .loop .inv .1)
+
+same-length-4 : tie.Need-same-length-4 Inv-loop μ-loop
+same-length-4 c =
+    let at-claim = c .before .before .before .before in
+    at-claim .claim .kept .1 .0 ∙ head (line (at-claim .before .before .before .before .before)) .loop .inv .0
+
+returns-4 : tie.Need-returns-4 Inv-loop μ-loop
+returns-4 c =
+    let at-claim = c .before .before .before .before in
+    let at-step4 = at-claim .before .before .before in
+    let j = at-step4 .before .before in
+    rw (c .refuse3 .ensures) (told-claim lawful counting (head (line j) .loop .inv .1) (next-at (line j)) (j .step-of .ensures) (at-step4 .step4 .given .1)
+    (at-claim .claim .ensures .0) _ (c .before .if1 .taken))
+
+loop-less-2 : tie.Need-loop-less-2 Inv-loop μ-loop
+loop-less-2 c = let x = next-at (line (c .before .before .before .before .before .before .before .before)) in omega (arith, x .low, x .some-chars, x .high)
+
+loop-again-2 : tie.Need-loop-again-2 Inv-loop μ-loop
+loop-again-2 c =
+    let at-claim = c .before .before .before in
+    let at-step4 = at-claim .before .before .before in
+    let j = at-step4 .before .before in
+    let l = head (line j) .loop in (
+      at-claim .claim .kept .1 .0 ∙ l .inv .0,
+      going-put lawful counting (l .inv .1) (next-at (line j)) (j .step-of .ensures) (at-step4 .step4 .given .1)
+          (at-claim .claim .ensures .0) _ (c .if1 .left) (at-claim .claim .ensures .1),
+    )
+
+pub walk-spec : {M : Type 1} → statement M
+walk-spec =
+    tie.close
+    (tie.spec
+    Inv-loop
+    μ-loop
+    (λ c κs. search needs)
+    loop-holds
+    next-record-requires
+    (λ c. search needs)
+    (λ c. search needs)
+    (λ c κs. search needs)
+    same-length
+    returns
+    add-number
+    sub-step-of
+    part-step-of-start
+    part-step-of-end
+    step-of-requires
+    (λ c. search needs)
+    (λ c κs. search needs)
+    same-length-2
+    returns-2
+    (λ c. search needs)
+    ended-requires
+    same-length-3
+    returns-3
+    (λ c. search needs)
+    loop-less
+    loop-again
+    (λ c. search needs)
+    (λ c. search needs)
+    claim-requires
+    (λ c κs. search needs)
+    same-length-4
+    returns-4
+    loop-less-2
+    loop-again-2)

@@ -1,0 +1,115 @@
+// The checking pass of a load: every refusal of a text, and the marks of the cells that it addresses.
+use marks::Form;
+use text::Found;
+use text::State;
+use text::Step;
+use window::Entry;
+use window::Refusal;
+ghost use mathlib.Core.Path.{_≡_};
+ghost use Prim.Native.Nat.{_≤_};
+ghost use lib.ListN.{length, drop, replicate};
+ghost use Rattle.hex.specs.Tables.{digitTable};
+ghost use Rattle.window.specs.Images.{blank};
+ghost use Rattle.window.specs.Plans.{placed};
+ghost use Rattle.marks.specs.Forms.{stored, marksLeft};
+ghost use Rattle.text.specs.Lines.{lines};
+ghost use Rattle.text.specs.Formats.{plan};
+ghost use Rattle.srec.specs.Lines.{isEnd};
+ghost use Rattle.srec.specs.Formats.{srec};
+ghost use Rattle.checking.specs.Answers.{checkedAs, MarkedBy, endedAs};
+
+// What checking a text finds.
+pub enum Checked {
+    Refused(Refusal),
+    Accepted {
+        entry: Entry,
+        records: usize,
+        cells: usize,
+    },
+}
+
+// Row 2, or the end, behind a terminator whose last character stands before `at`.
+fn ended(text: &[u8], at: usize, state: State, entry: Entry) -> Checked
+    requires { ⌜ (at ≤ length (now text)) × (state .number ≤ at) ⌝ }
+    ensures { λ r. ⌜ r ≡ endedAs state entry (lines isEnd at (drop at (now (text .entry)))) ⌝ }
+{
+    let found = srec_lines::next_record(text, at);
+    match found {
+        Found::At { from, to: _ } => Checked::Refused(window::refuse(2, state.number + 1, from)),
+        Found::Nothing => Checked::Accepted {
+            entry,
+            records: state.records,
+            cells: state.cells,
+        },
+    }
+}
+
+// Walks over the records of a text and marks the cells that they address, up to the first refusal.
+fn walk(
+    table: &[u8; 256],
+    text: &[u8],
+    base: usize,
+    form: Form,
+    marks: &mut [u8],
+    cells: usize,
+) -> Checked
+    requires { ⌜ (now table ≡ digitTable) × (now marks ≡ stored form (replicate cells 0)) ⌝ }
+    ensures answer { λ r. ⌜ r ≡ checkedAs (placed base (blank cells) (plan srec (now (text .entry)))) ⌝ }
+    ensures marks { λ _. ⌜ MarkedBy form (placed base (blank cells) (plan srec (now (text .entry)))) (now (marks .exit)) ⌝ }
+{
+    let mut state = text::start();
+    let mut at: usize = 0;
+    loop {
+        let found = srec_lines::next_record(text, at);
+        let Found::At { from, to } = found else {
+            return Checked::Refused(window::refuse(14, state.number, text.len()));
+        };
+        let number = state.number + 1;
+        let step = srec_read::step_of(table, state, &text[from..to], from);
+        match step {
+            Step::Refuse { reason, place } => {
+                return Checked::Refused(window::refuse(reason, number, place));
+            }
+            Step::Finish { next, entry } => return ended(text, to, next, entry),
+            Step::Pass(next) => {
+                state = next;
+                at = to;
+                continue;
+            }
+            Step::Put {
+                next,
+                address,
+                count,
+            } => {
+                let reason = marks::claim(form, marks, cells, base, address as usize, count);
+                if reason != 0 {
+                    return Checked::Refused(window::refuse(reason, number, from));
+                }
+                state = next;
+                at = to;
+                continue;
+            }
+        }
+    }
+}
+
+// Checks a text against a window of `cells` cells whose marks are all zero: marks the cells that it addresses, or none.
+pub fn check(
+    table: &[u8; 256],
+    text: &[u8],
+    base: usize,
+    form: Form,
+    marks: &mut [u8],
+    cells: usize,
+) -> Checked
+    requires { ⌜ (now table ≡ digitTable) × (now marks ≡ stored form (replicate cells 0)) ⌝ }
+    ensures answer { λ r. ⌜ r ≡ checkedAs (placed base (blank cells) (plan srec (now (text .entry)))) ⌝ }
+    ensures marks { λ _. ⌜ now (marks .exit) ≡ marksLeft form (now (marks .entry)) (placed base (blank cells) (plan srec (now (text .entry)))) ⌝ }
+{
+    let checked = walk(table, text, base, form, marks, cells);
+    let Checked::Refused(refusal) = checked else {
+        return checked;
+    };
+    marks::clear(marks);
+    Checked::Refused(refusal)
+}

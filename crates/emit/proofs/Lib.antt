@@ -1,3 +1,0 @@
-pub mod OverLaws
-pub mod ByteLaws
-pub mod LineLaws

@@ -1,0 +1,6 @@
+pub mod TestLaws
+pub mod PartLaws
+pub mod SearchLaws
+pub mod OverLaws
+pub mod PendingLaws
+pub mod ByteLaws

@@ -1,0 +1,32 @@
+-- Parts of a list.
+use mathlib.Core.Path.{_≡_}
+use Prim.Native.Nat.{ℕ, zero, suc, _+_, _-_, _≤_, min}
+use native.Mathlib.Nat.{zero-add, add-sub-cancel-left}
+use native.Mathlib.Omega.{arith}
+use mathlib.Core.List.{List, [], _∷_}
+use lib.Dec.{ltb}
+use lib.ListN.{length, take, drop, length-drop}
+use lib.Seq.{take-all, take-nil, length-take-le}
+use borrow.Author.Tests.{ltb-true, ltb-false}
+use Rattle.lists.proofs.TestLaws.{by-test}
+
+-- a part up to the end
+pub rest : (i : ℕ) (l : List ℕ) → take (length l - i) (drop i l) ≡ drop i l
+rest i l = take-all (length l - i) (drop i l) (omega (arith, length-drop i l))
+
+-- a part in the middle, taken before or after what stands before it is dropped
+pub drop-take : (i k : ℕ) (l : List ℕ) → drop i (take (i + k) l) ≡ take k (drop i l)
+drop-take zero k l = rw (zero-add k)
+drop-take (suc i) k [] = let e : suc i + k ≡ suc (i + k) = omega arith in rw (e, take-nil k)
+drop-take (suc i) k (x ∷ l) = let e : suc i + k ≡ suc (i + k) = omega arith in rw e (drop-take i k l)
+
+-- no more can be taken than there are
+pub take-least : (k : ℕ) (l : List ℕ) → take (min k (length l)) l ≡ take k l
+take-least k l =
+    by-test (ltb (length l) k)
+    (λ t. let e : min k (length l) ≡ length l = omega (arith, ltb-true (length l) k t) in rw (e, take-all (length l) l (omega arith), take-all k l (omega (arith, ltb-true (length l) k t))))
+    (λ t. let e : min k (length l) ≡ k = omega (arith, ltb-false (length l) k t) in rw e)
+
+-- a part of n bytes that is lent has n bytes
+pub lent-length : (m : List ℕ) (from n : ℕ) → from + n ≤ length m → length (take (from + n - from) (drop from m)) ≡ n
+lent-length m from n h = rw (add-sub-cancel-left from n) (length-take-le n (drop from m) (omega (arith, length-drop from m)))

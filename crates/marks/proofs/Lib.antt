@@ -1,0 +1,4 @@
+pub mod FormLaws
+pub mod MarkSearchLaws
+pub mod GrantLaws
+pub mod FlagLaws

@@ -1,0 +1,38 @@
+-- S-records as a format.
+use Prim.Native.Nat.{ℕ}
+use mathlib.Core.Bool.{Bool, not}
+use mathlib.Core.List.{List, [], _∷_}
+use lib.Dec.{ltb}
+use lib.ListN.{length}
+use Rattle.window.specs.declared.Entry.{Entry}
+use Rattle.window.specs.Windows.{Window, firstBadMark, row16}
+use Rattle.window.specs.Plans.{isPresent}
+use Rattle.text.specs.Formats.{Row, Format}
+use Rattle.text.specs.Write.{rowOf}
+use Rattle.srec.specs.Lines.{isEnd}
+use Rattle.srec.specs.Reading.{read}
+use Rattle.srec.specs.Judging.{carried, judged}
+use Rattle.srec.specs.Canonical.{canonical}
+
+-- row 15: the header has more than 252 bytes
+unfoldable pub row15 : List ℕ → Bool
+row15 header = ltb 252 (length header)
+
+-- row 18: there is no entry
+unfoldable pub row18 : Entry → Bool
+row18 entry = not (isPresent entry)
+
+-- rows 15, 16, 18 in this order; 16 reports the first such index
+abbrev pub rows : Window → List ℕ → Entry → List Row
+rows W header entry =
+    rowOf (row15 header) 15 0 ∷ rowOf (row16 (W .marks)) 16 (firstBadMark (W .marks)) ∷ rowOf (row18 entry) 18 0 ∷ []
+
+-- line ends, rows 3 to 11 by reading and judging, the canonical text, and the writer's rows 15, 16 and 18
+abbrev pub srec : Format
+srec = record {
+  gap = isEnd;
+  step = λ s chars. judged s (read chars);
+  part = λ chars. carried (read chars);
+  canonical = canonical;
+  rows = rows;
+}

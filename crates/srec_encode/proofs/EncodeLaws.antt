@@ -1,0 +1,103 @@
+-- A record's line: written piece by piece, and as a record of each kind.
+use mathlib.Core.Path.{_≡_, refl, sym, ap, _∙_}
+use Prim.Native.Nat.{ℕ, _+_, _*_, _-_, _%_, _≤_}
+use native.Mathlib.Omega.{arith}
+use mathlib.Core.List.{List, [], _∷_, _++_}
+use lib.ListN.{length, set, length-append}
+use Rattle.hex.specs.Digits.{digitsOf}
+use Rattle.hex.specs.Numbers.{inBytes, sum}
+use Rattle.hex.proofs.DigitLaws.{length-pairs}
+use Rattle.hex.proofs.NumberLaws.{length-inBytes}
+use Rattle.lists.specs.Lists.{over}
+use Rattle.srec.specs.Kinds.{Kind, typeOf, width}
+use Rattle.srec.specs.Reading.{checksum}
+use Rattle.srec.specs.Writing.{summed, recordWith, recordText}
+use Rattle.srec_encode.specs.Records.{lineWith, lineOf}
+use Rattle.lists.proofs.OverLaws.{over-two, over-next, over-store, over-all}
+use Rattle.hex.proofs.PutLaws.{digits-append, sum-append}
+
+-- the line that numbers describe is the record of the kind that has them, and LF
+pub line-text : (k : Kind) (a : ℕ) (ds : List ℕ) → lineOf (typeOf k) (width k) a ds ≡ recordText k a ds ++ (10 ∷ [])
+unfolding lineOf lineWith
+line-text k a ds = refl
+
+-- the length, for the address bytes
+length-with : (kind : ℕ) (address ds : List ℕ) → length (lineWith kind address ds) ≡ 7 + 2 * length address + 2 * length ds
+unfolding lineWith recordWith summed
+length-with kind address ds = simp (length-append, length-pairs) (omega arith)
+
+-- 7 characters, and two for each byte of address and data
+pub length-line : (kind w a : ℕ) (ds : List ℕ) → length (lineOf kind w a ds) ≡ 7 + 2 * w + 2 * length ds
+unfolding lineOf
+length-line kind w a ds = length-with kind (inBytes w a) ds ∙ rw (length-inBytes w a)
+
+-- the sums add up to the checksum: the return of `check_byte`
+pub checksum-parts : (count : ℕ) (address ds : List ℕ) → 255 - (count + sum address + sum ds) % 256 ≡ checksum (count ∷ address ++ ds)
+unfolding checksum
+checksum-parts count address ds = rw (sum-append address ds) (omega arith)
+
+-- ---- a line written piece by piece
+
+module _ (o : List ℕ) (kind : ℕ) (address ds : List ℕ) (h : length o ≡ 7 + 2 * length address + 2 * length ds) where
+  -- the count
+  abbrev count : ℕ
+  count = length address + length ds + 1
+
+  -- the checksum
+  abbrev check : ℕ
+  check = checksum (summed address ds)
+
+  -- what is written before the address
+  abbrev before-address : List ℕ
+  before-address = 83 ∷ kind ∷ digitsOf (count ∷ [])
+
+  -- what is written before the data
+  abbrev before-data : List ℕ
+  before-data = before-address ++ digitsOf address
+
+  -- what is written before the checksum
+  abbrev before-check : List ℕ
+  before-check = before-data ++ digitsOf ds
+
+  -- what is written before LF
+  abbrev before-end : List ℕ
+  before-end = before-check ++ digitsOf (check ∷ [])
+
+  -- the place of the data
+  length-data : length before-data ≡ 4 + 2 * length address
+  length-data = omega (arith, length-pairs address)
+
+  -- the place of the checksum
+  length-check : length before-check ≡ 4 + 2 * length address + 2 * length ds
+  length-check = length-append before-data (digitsOf ds) ∙ omega (arith, length-data, length-pairs ds)
+
+  -- the place of LF
+  length-end : length before-end ≡ 4 + 2 * length address + 2 * length ds + 2
+  length-end = length-append before-check (digitsOf (check ∷ [])) ∙ omega (arith, length-check)
+
+  -- all pieces together
+  pieces : before-end ++ (10 ∷ []) ≡ lineWith kind address ds
+  unfolding lineWith recordWith summed
+  pieces = rw (digits-append (address ++ ds) (check ∷ []), digits-append address ds)
+
+  -- the output after each store of `put_fields`
+  abbrev pub stored : List ℕ
+  stored =
+      set (over (over (over (over (set (set o 0 83) 1 kind) 2 (digitsOf (count ∷ []))) 4 (digitsOf address))
+      (4 + 2 * length address) (digitsOf ds)) (4 + 2 * length address + 2 * length ds) (digitsOf (check ∷ [])))
+      (4 + 2 * length address + 2 * length ds + 2) 10
+
+  -- they leave the line: the return of `put_fields`
+  pub line-stored : stored ≡ lineWith kind address ds
+  line-stored =
+      let l : 0 + 2 ≤ length o = omega (arith, h) in
+      rw (
+        over-two o 0 83 kind l,
+        over-next o 0 (83 ∷ kind ∷ []) (digitsOf (count ∷ [])) 2 refl (omega arith),
+        over-next o 0 before-address (digitsOf address) 4 refl (omega (arith, h)),
+        over-next o 0 before-data (digitsOf ds) (4 + 2 * length address) (omega (arith, length-data)) (omega (arith, h)),
+        over-next o 0 before-check (digitsOf (check ∷ [])) (4 + 2 * length address + 2 * length ds) (omega (arith, length-check)) (omega (arith, h)),
+        over-store o 0 before-end 10 (4 + 2 * length address + 2 * length ds + 2) (omega (arith, length-end)) (omega (arith, h)),
+        over-all o (before-end ++ (10 ∷ [])) (ap length pieces ∙ length-with kind address ds ∙ sym h),
+      )
+      pieces

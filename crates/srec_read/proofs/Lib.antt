@@ -1,0 +1,4 @@
+pub mod KindLaws
+pub mod FieldLaws
+pub mod ReadLaws
+pub mod JudgeLaws

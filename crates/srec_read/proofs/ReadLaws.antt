@@ -1,0 +1,137 @@
+-- Rows 3 to 7 by the characters of a record: one law for each answer of `read_record`.
+use mathlib.Core.Path.{_≡_, sym, ap, _∙_}
+use Prim.Native.Nat.{ℕ, _+_, _-_, _*_, _%_, _≤_, _<_}
+use native.Mathlib.Nat.{add-zero, add-assoc}
+use native.Mathlib.Omega.{arith}
+use mathlib.Core.Bool.{true, false, cond, not}
+use mathlib.Core.List.{List}
+use mathlib.Core.Option.{none}
+use lib.Dec.{eqb}
+use lib.ListN.{length, getD, take, drop, length-drop}
+use lib.Seq.{getD-drop}
+use borrow.Author.Tests.{lt-ltb, le-ltb, eq-eqb, ne-eqb}
+use Rattle.hex.specs.Digits.{byteOf, bytes, firstBad}
+use Rattle.hex.specs.Numbers.{number, sum}
+use Rattle.hex.proofs.PairLaws.{byte-at, take-bytes}
+use Rattle.srec.specs.Kinds.{Kind, kindOf, known}
+use Rattle.srec.specs.Reading.{Read, fault, checksum, row3, row4, row5, row6, row7, addressIn, dataIn, read}
+use Rattle.srec.specs.Reading.Read.{good}
+use Rattle.srec_read.specs.declared.Record.the-variants.{Good, Bad}
+use Rattle.srec_read.specs.Records.{asRecord}
+use Rattle.srec_read.proofs.KindLaws.{Known}
+use Rattle.srec_read.proofs.FieldLaws.{bs, count, address-at, length-data}
+
+-- a refusal at the record's first character
+pub at-place : (place : ℕ) {reason : ℕ} {r : Read} → fault reason 0 ≡ r → Bad reason place ≡ asRecord place r
+at-place place {reason} e = ap (Bad reason) (sym (add-zero place)) ∙ ap (asRecord place) e
+
+module _ (chars : List ℕ) where
+  -- the record is too long
+  pub row-3 : 514 < length chars → fault 3 0 ≡ read chars
+  unfolding read row3
+  row-3 h = rw (lt-ltb 514 (length chars) h)
+
+  -- it has fewer than 4 characters
+  pub row-4-short : length chars ≤ 514 → length chars < 4 → fault 4 0 ≡ read chars
+  unfolding read row3 row4
+  row-4-short h l = rw (le-ltb 514 (length chars) h, lt-ltb (length chars) 4 l)
+
+  -- it does not begin with S
+  pub row-4-letter : length chars ≤ 514 → 4 ≤ length chars → (getD chars 0 0 ≡ 83 → ⊥) → fault 4 0 ≡ read chars
+  unfolding read row3 row4
+  row-4-letter h l n = rw (le-ltb 514 (length chars) h, le-ltb (length chars) 4 l, ne-eqb (getD chars 0 0) 83 n)
+
+  -- its type is not in the table
+  pub row-4-type : length chars ≤ 514 → 4 ≤ length chars → getD chars 0 0 ≡ 83 → kindOf (getD chars 1 0) ≡ none → fault 4 0 ≡ read chars
+  unfolding read row3 row4
+  row-4-type h l s n = rw (le-ltb 514 (length chars) h, le-ltb (length chars) 4 l, eq-eqb (getD chars 0 0) 83 s, n)
+
+  -- a record that passes rows 3 and 4, of a type with w address bytes
+  pub record Head (w : ℕ) : Type 0 where
+    pub short : length chars ≤ 514
+    pub four : 4 ≤ length chars
+    pub letter : getD chars 0 0 ≡ 83
+    pub type-known : Known (getD chars 1 0) w
+
+  module _ (w : ℕ) (h : Head w) where
+    -- its kind
+    abbrev k : Kind
+    k = known (kindOf (getD chars 1 0))
+
+    -- rows 5 to 7 are left
+    left : read chars ≡ cond (row5 chars) (fault 5 (2 + firstBad (drop 2 chars)))
+        (cond (row6 k (length chars) (count chars)) (fault 6 0) (cond (row7 (bs chars)) (fault 7 0) (good k (addressIn k (bs chars)) (dataIn k (bs chars)))))
+    unfolding read row3 row4
+    left = rw (le-ltb 514 (length chars) (h .short), le-ltb (length chars) 4 (h .four), eq-eqb (getD chars 0 0) 83 (h .letter), h .type-known .is)
+
+    -- a character from the third on is no digit
+    pub row-5 : firstBad (drop 2 chars) < length (drop 2 chars) → fault 5 (2 + firstBad (drop 2 chars)) ≡ read chars
+    unfolding row5
+    row-5 l = sym (left ∙ rw (lt-ltb (firstBad (drop 2 chars)) (length (drop 2 chars)) l))
+
+    -- length, count and type do not agree
+    pub row-6 : length (drop 2 chars) ≤ firstBad (drop 2 chars) → {n : ℕ} → n ≡ count chars → row6 k (length chars) n ≡ true → fault 6 0 ≡ read chars
+    unfolding row5
+    row-6 l e six = sym (left ∙ rw (le-ltb (firstBad (drop 2 chars)) (length (drop 2 chars)) l, ap (row6 k (length chars)) (sym e) ∙ six))
+
+-- a record that passes rows 3 to 6
+pub record Sized (chars : List ℕ) (w n : ℕ) : Type 0 where
+  pub head : Head chars w
+  pub digits : length (drop 2 chars) ≤ firstBad (drop 2 chars)
+  pub count-is : n ≡ count chars
+  pub six : row6 (known (kindOf (getD chars 1 0))) (length chars) n ≡ false
+  pub long : length chars ≡ 4 + 2 * n
+  pub least : w + 1 ≤ n
+
+module _ (chars : List ℕ) (w n : ℕ) (z : Sized chars w n) where
+  -- its kind
+  abbrev v : Kind
+  v = z .head .type-known .kind
+
+  -- its bytes, the count first
+  abbrev all : List ℕ
+  all = bs chars
+
+  -- the checksum that the record has
+  abbrev pub given : ℕ
+  given = byteOf (getD chars (2 + 2 * n) 0) (getD chars (2 + 2 * n + 1) 0)
+
+  -- the checksum that it should have
+  abbrev pub right : ℕ
+  right = 255 - sum (bytes (take (2 * n) (drop 2 chars))) % 256
+
+  -- the bytes that the checksum covers, by their characters
+  sum-at : take (count chars) all ≡ bytes (take (2 * n) (drop 2 chars))
+  sum-at = ap (λ (j : ℕ). take j all) (sym (z .count-is)) ∙ take-bytes n (drop 2 chars)
+
+  -- the checksum by its two characters
+  check-at : getD all (count chars) 0 ≡ given
+  check-at =
+      ap (λ (j : ℕ). getD all j 0) (sym (z .count-is)) ∙ byte-at n (drop 2 chars) (omega (arith, length-drop 2 chars, z .long))
+      ∙ rw (getD-drop, getD-drop, add-assoc)
+
+  -- row 7 alone is left
+  left-seven : read chars ≡ cond (not (eqb given right)) (fault 7 0) (good v (addressIn v all) (dataIn v all))
+  unfolding row5 row7 checksum
+  left-seven =
+      let six : row6 (known (kindOf (getD chars 1 0))) (length chars) (count chars) ≡ false
+      = ap (row6 (known (kindOf (getD chars 1 0))) (length chars)) (sym (z .count-is)) ∙ z .six in
+      left chars w (z .head)
+      ∙ rw (le-ltb (firstBad (drop 2 chars)) (length (drop 2 chars)) (z .digits), six, check-at, sum-at, z .head .type-known .is)
+
+  -- they differ
+  pub row-7 : (given ≡ right → ⊥) → fault 7 0 ≡ read chars
+  row-7 e = sym (left-seven ∙ rw (ne-eqb given right e))
+
+  -- they agree: no row refuses the record
+  pub good-record : given ≡ right → (place : ℕ)
+      → Good (getD chars 1 0) (number (bytes (take (2 * w) (drop 4 chars)))) (n - (w + 1)) ≡ asRecord place (read chars)
+  good-record e place =
+      let r : read chars ≡ good v (addressIn v all) (dataIn v all) = left-seven ∙ rw (eq-eqb given right e) in
+      let a : addressIn v all ≡ number (bytes (take (2 * w) (drop 4 chars)))
+      = address-at chars v ∙ ap (λ (j : ℕ). number (bytes (take (2 * j) (drop 4 chars)))) (z .head .type-known .width-is) in
+      let d : length (dataIn v all) ≡ n - (w + 1)
+      = length-data chars v (omega (arith, z .long, z .count-is)) (omega (arith, z .least, z .count-is, z .head .type-known .width-is))
+      ∙ omega (arith, z .count-is, z .head .type-known .width-is) in
+      (λ i. Good (sym (z .head .type-known .type-is) i) (sym a i) (sym d i))
+      ∙ ap (asRecord place) (sym r)

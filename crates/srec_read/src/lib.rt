@@ -1,0 +1,194 @@
+// One record: read (rows 3 to 7), and judged against what came before it (rows 8 to 11, on numbers alone).
+use text::State;
+use text::Step;
+use window::Entry;
+ghost use mathlib.Core.Path.{_≡_};
+ghost use mathlib.Core.Bool.{true, not};
+ghost use Prim.Native.Nat.{ℕ, _+_, _*_, _^_, _≤_, _<_};
+ghost use mathlib.Core.List.{[]};
+ghost use lib.ListN.{length, replicate};
+ghost use Rattle.hex.specs.Tables.{digitTable};
+ghost use Rattle.text.specs.declared.Step.the-variants.{Refuse};
+ghost use Rattle.text.specs.Steps.{stateWith, asStep};
+ghost use Rattle.srec.specs.Kinds.{kindOf, isKnown, known};
+ghost use Rattle.srec.specs.Reading.{row6, read};
+ghost use Rattle.srec.specs.Judging.{row9, judge as judgeScan};
+ghost use Rattle.srec.specs.Formats.{srec};
+ghost use Rattle.srec_read.specs.declared.Record.the-variants.{Bad};
+ghost use Rattle.srec_read.specs.Records.{widthOr0, asRecord};
+
+// A record's most and least characters: S, type, and the pairs of a count of 255, or of a count alone.
+const MOST_CHARS: usize = 514;
+
+const LEAST_CHARS: usize = 4;
+
+// What a record says: its type character, address and number of data bytes; or the row that refuses it, and where.
+pub enum Record {
+    Good(u8, u32, usize),
+    Bad(u32, usize),
+}
+
+// The address bytes of a type; 0 for a type that is not in the table.
+pub fn width_of(kind: u8) -> usize
+    ensures { λ r. ⌜ (r ≡ widthOr0 (kindOf kind)) × (r ≤ 4) ⌝ }
+{
+    match kind {
+        b'0' => 2,
+        b'1' => 2,
+        b'2' => 3,
+        b'3' => 4,
+        b'5' => 2,
+        b'7' => 4,
+        b'8' => 3,
+        b'9' => 2,
+        _ => 0,
+    }
+}
+
+// Row 6 does not apply to a type with `width` address bytes, n characters and a count.
+fn fits(kind: u8, width: usize, n: usize, count: usize) -> bool
+    requires { ⌜ (widthOr0 (kindOf kind) ≡ width) × (2 ≤ width) × (width ≤ 4) × (count < 256) ⌝ }
+    ensures { λ r. ⌜ r ≡ not (row6 (known (kindOf kind)) n count) ⌝ }
+{
+    if n != 4 + 2 * count {
+        return false;
+    }
+    if count < width + 1 {
+        return false;
+    }
+    // S0 to S3 may have data
+    if kind <= b'3' {
+        return true;
+    }
+    count == width + 1
+}
+
+// Reads a record that stands at a place of its text.
+pub fn read_record(table: &[u8; 256], chars: &[u8], place: usize) -> Record
+    requires { ⌜ (now table ≡ digitTable) × (place + length (now chars) < 2 ^ 64) ⌝ }
+    ensures { λ r. ⌜ r ≡ asRecord place (read (now (chars .entry))) ⌝ }
+{
+    let n = chars.len();
+    if n > MOST_CHARS {
+        return Record::Bad(3, place);
+    }
+    if n < LEAST_CHARS {
+        return Record::Bad(4, place);
+    }
+    if chars[0] != b'S' {
+        return Record::Bad(4, place);
+    }
+    let kind = chars[1];
+    let width = width_of(kind);
+    if width == 0 {
+        return Record::Bad(4, place);
+    }
+    let wrong = hex::first_bad(table, &chars[2..]);
+    if wrong < n - 2 {
+        return Record::Bad(5, place + (2 + wrong));
+    }
+    let count = hex::byte_of(table, chars[2], chars[3]) as usize;
+    if !fits(kind, width, n, count) {
+        return Record::Bad(6, place);
+    }
+    let end = 2 + 2 * count;
+    let right = 255 - (hex::sum_pairs(table, &chars[2..end]) % 256) as u8;
+    if hex::byte_of(table, chars[end], chars[end + 1]) != right {
+        return Record::Bad(7, place);
+    }
+    let data = 4 + 2 * width;
+    let address = hex::number_of(table, &chars[4..data]);
+    Record::Good(kind, address, count - (width + 1))
+}
+
+// Row 9: is there a first data record, of another width?
+fn differs(first: usize, width: usize) -> bool
+    ensures { λ r. ⌜ r ≡ row9 first width ⌝ }
+{
+    first != 0 && first != width
+}
+
+// How many addresses `width` bytes hold.
+fn limit(width: usize) -> usize
+    requires { ⌜ (2 ≤ width) × (width ≤ 4) ⌝ }
+    ensures { λ r. ⌜ r ≡ 2 ^ (8 * width) ⌝ }
+{
+    1usize << (8 * width)
+}
+
+// Rows 8 to 11 for a record that was read, against what came before it.
+fn judge(state: State, kind: u8, address: u32, count: usize, place: usize) -> Step
+    requires { ⌜ (isKnown (kindOf kind) ≡ true) × (state .number + 1 < 2 ^ 64) × (state .records + 1 < 2 ^ 64) × (state .cells + count < 2 ^ 64) × (count < 2 ^ 32) ⌝ }
+    ensures { λ r. ⌜ r ≡ asStep place (stateWith [] state) (judgeScan (stateWith [] state) (known (kindOf kind)) address (replicate count 0)) ⌝ }
+{
+    let number = state.number + 1;
+    let next = State {
+        number,
+        records: state.records,
+        cells: state.cells,
+        width: state.width,
+    };
+    if kind == b'0' {
+        if state.number != 0 {
+            return Step::Refuse { reason: 8, place };
+        }
+        return Step::Pass(next);
+    }
+    if kind == b'5' {
+        if address as usize != state.records {
+            return Step::Refuse { reason: 10, place };
+        }
+        return Step::Pass(next);
+    }
+    let width = width_of(kind);
+    if differs(state.width, width) {
+        return Step::Refuse { reason: 9, place };
+    }
+    // S7 to S9 end the text; S1 to S3 are left
+    if kind > b'5' {
+        return Step::Finish {
+            next,
+            entry: Entry::Present(address),
+        };
+    }
+    if address as usize + count > limit(width) {
+        return Step::Refuse { reason: 11, place };
+    }
+    let more = State {
+        number,
+        records: state.records + 1,
+        cells: state.cells + count,
+        width,
+    };
+    Step::Put {
+        next: more,
+        address,
+        count,
+    }
+}
+
+// The refusal of a record that cannot be read.
+fn unread(answer: Record) -> Step
+    ensures { λ r. ⌜ ((reason place : ℕ) → answer ≡ Bad reason place → r ≡ Refuse reason place) ⌝ }
+{
+    match answer {
+        Record::Bad(reason, place) => Step::Refuse { reason, place },
+        Record::Good(_, _, _) => Step::Refuse {
+            reason: 0,
+            place: 0,
+        },
+    }
+}
+
+// What a record does that stands at a place of its text, behind the records before it: rows 3 to 11.
+pub fn step_of(table: &[u8; 256], state: State, chars: &[u8], place: usize) -> Step
+    requires { ⌜ (now table ≡ digitTable) × (place + length (now chars) < 2 ^ 64) ⌝ }
+    requires { ⌜ (state .number + 1 < 2 ^ 64) × (state .records + 1 < 2 ^ 64) × (state .cells + length (now chars) < 2 ^ 64) ⌝ }
+    ensures { λ r. ⌜ r ≡ asStep place (stateWith [] state) (srec .step (stateWith [] state) (now (chars .entry))) ⌝ }
+{
+    let answer = read_record(table, chars, place);
+    let Record::Good(kind, address, count) = answer else {
+        return unread(answer);
+    };
+    judge(state, kind, address, count, place)
+}

@@ -1,0 +1,79 @@
+-- The header's array, and the header that a record holds.
+use mathlib.Core.Path.{_≡_, refl, sym, ap, _∙_, subst}
+use Prim.Native.Nat.{ℕ, zero, suc, _+_, _-_, _*_, _≤_}
+use native.Mathlib.Nat.{zero-add, suc-add}
+use native.Mathlib.Omega.{arith}
+use mathlib.Core.List.{List, [], _++_}
+use lib.ListN.{length, take, drop, replicate}
+use lib.Seq.{length-take-le}
+use mathlib.Core.Option.{some}
+use Rattle.hex.specs.Digits.{bytes}
+use Rattle.text.specs.Load.{headerOf}
+use Rattle.text.specs.Terms.{headerIn}
+use Rattle.srec.specs.Kinds.{Kind, kindOf}
+use Rattle.srec.specs.Kinds.Kind.{S0, Data, S5, End}
+use Rattle.srec.specs.Reading.{Read, read}
+use Rattle.srec.specs.Reading.Read.{good, bad}
+use Rattle.srec.specs.Judging.{carried}
+use Rattle.srec_read.specs.declared.Record.the-variants.{Bad}
+use Rattle.srec_read.specs.Records.{asRecord}
+use Rattle.srec_read.proofs.FieldLaws.{Fields, Got}
+use Rattle.srec_read.proofs.KindLaws.{type-of-kind}
+
+-- ---- the header's array
+
+-- the array before it is filled
+abbrev pub zeros : List ℕ
+zeros = replicate 252 0
+
+-- behind the first n of n + k zeros stand k zeros
+drop-zeros : (n k : ℕ) → drop n (replicate {A = ℕ} (n + k) 0) ≡ replicate k 0
+drop-zeros zero k = ap (λ (j : ℕ). replicate j 0) (zero-add k)
+drop-zeros (suc n) k = ap (λ (j : ℕ). drop (suc n) (replicate {A = ℕ} j 0)) (suc-add n k) ∙ drop-zeros n k
+
+-- behind the first n bytes the array stays zero
+padding : (n : ℕ) → n ≤ 252 → drop n zeros ≡ replicate (252 - n) 0
+padding n h =
+    let m : 252 ≡ n + (252 - n) = omega arith in
+    ap (λ (j : ℕ). drop n (replicate {A = ℕ} j 0)) m ∙ drop-zeros n (252 - n)
+
+-- ---- the header that a record holds
+
+-- a record that carries no header has the empty one
+no-header : (chars : List ℕ) → headerIn (carried (read chars)) [] ≡ [] → headerOf [] ≡ headerOf (headerIn (carried (read chars)) [])
+no-header chars e = rw e refl
+
+-- a record that cannot be read has no header
+pub header-bad : (chars : List ℕ) (place reason at : ℕ) → Bad reason at ≡ asRecord place (read chars) → headerOf [] ≡ headerOf (headerIn (carried (read chars)) [])
+header-bad chars place reason at q = no-header chars (go (read chars) q)
+  where
+    go : (r : Read) → Bad reason at ≡ asRecord place r → headerIn (carried r) [] ≡ []
+    go (good k a ds) e = absurd (let z : _≡_ {A = ℕ} 0 1 = cc in omega arith)
+    go (bad f) e = refl
+
+-- nor has a record of another type
+pub header-other : (chars : List ℕ) (kind a n : ℕ) → Got chars kind a n → (kind ≡ 48 → ⊥) → headerOf [] ≡ headerOf (headerIn (carried (read chars)) [])
+unfolding kindOf
+header-other chars kind a n r h = no-header chars (ap (λ (x : Read). headerIn (carried x) []) (r .is) ∙ go (r .k) (r .known-is))
+  where
+    go : (k : Kind) → kindOf kind ≡ some k → headerIn (carried (good k a (r .ds))) [] ≡ []
+    go S0 e = absurd (h (sym (type-of-kind kind S0 e)))
+    go (Data w) e = refl
+    go S5 e = refl
+    go (End w) e = refl
+
+-- the data of an S0 is its header
+pub header-s0 : (chars : List ℕ) (kind a n : ℕ) → Got chars kind a n → kind ≡ 48 → (bs : List ℕ)
+    → bs ≡ bytes (take (2 * length (take n zeros)) (drop 8 chars)) → record { len = n; bytes = bs ++ drop n zeros } ≡ headerOf (headerIn (carried (read chars)) [])
+unfolding kindOf
+header-s0 chars kind a n r c bs q =
+    let k : r .k ≡ S0 = same (sym (r .known-is) ∙ ap kindOf c) in
+    let is : read chars ≡ good S0 a (r .ds) = r .is ∙ ap (λ (x : Kind). good x a (r .ds)) k in
+    let f : Fields chars S0 a (r .ds) = subst (λ (x : Kind). Fields chars x a (r .ds)) k (r .fields) in
+    let e : 2 * length (take n zeros) ≡ 2 * length (r .ds) = omega (arith, r .len, length-take-le n zeros (r .small .1)) in
+    let d : bs ≡ r .ds = q ∙ ap (λ (j : ℕ). bytes (take j (drop 8 chars))) e ∙ sym (f .data-is) in
+    let z : drop n zeros ≡ replicate (252 - length (r .ds)) 0 = padding n (r .small .1) ∙ ap (λ (j : ℕ). replicate (252 - j) 0) (sym (r .len)) in
+    (λ i. record { len = sym (r .len) i; bytes = d i ++ z i }) ∙ ap (λ (x : Read). headerOf (headerIn (carried x) [])) (sym is)
+  where
+    same : {x y : Kind} → some x ≡ some y → x ≡ y
+    same e = cc

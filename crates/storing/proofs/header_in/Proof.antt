@@ -1,0 +1,52 @@
+-- `header_in` meets its contract: no S0 has no header, and an S0 its data bytes.
+use mathlib.Core.Path.{sym, _∙_}
+use native.Mathlib.Omega.{arith}
+use lib.Seq.{length-take-le}
+use Rattle.srec_read.proofs.FieldLaws.{Got, got}
+use Rattle.storing.proofs.HeaderLaws.{zeros, header-bad, header-other, header-s0}
+use borrow.Author.Needs.{needs}
+use Rattle.storing.proofs.header_in.Statement.{statement}
+use Rattle.storing.proofs.header_in.Tie as tie
+
+-- what the record says
+got-at : (c : tie.After-answer) → Got (c .before .before .before .before .args .chars .now) (c .answer .given .0 .0) (c .answer .given .0 .1 .0) (c .answer .given .0 .1 .1 .0)
+got-at c = got _ _ _ _ _ (sym (c .answer .given .1) ∙ c .before .before .read-record .ensures)
+
+returns : tie.Need-returns
+returns c = c .no-header .ensures ∙ header-bad _ _ _ _ (sym (c .before .enum-told .given .1) ∙ c .before .before .before .read-record .ensures)
+
+returns-2 : tie.Need-returns-2
+returns-2 c = c .no-header2 .ensures ∙ header-other _ _ _ _ (got-at (c .before .before .before)) (c .before .if1 .taken)
+
+array-borrow-prefix-bytes : tie.Need-array-borrow-prefix-bytes
+array-borrow-prefix-bytes c = let r = got-at (c .before .before) in omega (arith, r .small .1)
+
+slice-aggregate-store-record : tie.Need-slice-aggregate-store-record
+slice-aggregate-store-record c = let r = got-at (c .before .before .before) in sym (length-take-le _ zeros (r .small .1))
+
+store-record-requires : tie.Need-store-record-requires
+store-record-requires c κs =
+    let at-answer = c .before .before .before in
+    let r = got-at at-answer in
+    (at-answer .before .before .before .before .pre, search needs, omega (arith, r .fields .long, r .small .2, r .len, length-take-le _ zeros (r .small .1)))
+
+returns-3 : tie.Need-returns-3
+returns-3 c =
+    let at-if1 = c .before .before .before in
+    header-s0 _ _ _ _ (got-at (at-if1 .before .before)) (at-if1 .if1 .left) _ (c .before .store-record .ensures)
+
+pub header-in-spec : {M : Type 1} → statement M
+header-in-spec =
+    tie.close
+    (tie.spec
+    (λ c κs. search needs)
+    (λ c. search needs)
+    (λ c. search needs)
+    (λ c κs. search needs)
+    returns
+    (λ c κs. search needs)
+    returns-2
+    array-borrow-prefix-bytes
+    slice-aggregate-store-record
+    store-record-requires
+    returns-3)

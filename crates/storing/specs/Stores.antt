@@ -1,0 +1,34 @@
+-- What the storing pass leaves in memory.
+use mathlib.Core.Path.{_≡_}
+use Prim.Native.Nat.{ℕ, _-_}
+use mathlib.Core.Bool.{false}
+use mathlib.Core.List.{List}
+use lib.ListN.{length}
+use Rattle.lists.specs.Lists.{over}
+use Rattle.window.specs.Images.{Image}
+use Rattle.window.specs.Plans.{Summary, Outcome, row12}
+use Rattle.window.specs.Plans.Outcome.{accepted}
+use Rattle.text.specs.Scan.{Step}
+use Rattle.text.specs.Scan.Step.{refuse, skip, title, put, finish}
+
+-- memory after one line, by what it carries
+abbrev pub storedBy : ℕ → List ℕ → Step → List ℕ
+storedBy base m (refuse f) = m
+storedBy base m skip = m
+storedBy base m (title h) = m
+storedBy base m (put w a ds) = over m (a - base) ds
+storedBy base m (finish e) = m
+
+-- a line that was read and has no data outside the window
+abbrev pub Placeable : ℕ → ℕ → Step → Type 0
+Placeable base size (refuse f) = ⊥
+Placeable base size skip = Unit {0}
+Placeable base size (title h) = Unit {0}
+Placeable base size (put w a ds) = row12 base size a (length ds) ≡ false
+Placeable base size (finish e) = Unit {0}
+
+-- an outcome that is no refusal
+pub record Accepts (o : Outcome) : Type 0 where
+  pub sum : Summary
+  pub img : Image
+  pub is : o ≡ accepted sum img

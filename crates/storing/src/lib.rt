@@ -1,0 +1,112 @@
+// The storing pass of a load, over a text that was checked: the data into memory, and the header.
+use srec_read::Record;
+use text::Found;
+use window::Header;
+ghost use mathlib.Core.Path.{_≡_};
+ghost use mathlib.Core.List.{[]};
+ghost use Prim.Native.Nat.{_+_, _*_, _≤_};
+ghost use lib.ListN.{length, take, drop};
+ghost use Rattle.hex.specs.Digits.{bytes};
+ghost use Rattle.hex.specs.Tables.{digitTable};
+ghost use Rattle.window.specs.Images.{blank};
+ghost use Rattle.window.specs.Plans.{placed};
+ghost use Rattle.text.specs.Lines.{lines};
+ghost use Rattle.text.specs.Finds.{firstHeader};
+ghost use Rattle.text.specs.Formats.{plan};
+ghost use Rattle.text.specs.Load.{headerOf, memoryAfter};
+ghost use Rattle.text.specs.Terms.{headerIn};
+ghost use Rattle.srec.specs.Lines.{isEnd};
+ghost use Rattle.srec.specs.Reading.{read};
+ghost use Rattle.srec.specs.Judging.{carried};
+ghost use Rattle.srec.specs.Formats.{srec};
+ghost use Rattle.storing.specs.Stores.{storedBy, Placeable, Accepts};
+
+// Stores the data bytes of a record, which stand behind its address, into the part that is lent for them.
+fn store_record(table: &[u8; 256], part: &mut [u8], chars: &[u8], width: usize)
+    requires { ⌜ (now table ≡ digitTable) × (width ≤ 4) × (4 + 2 * width + 2 * length (now part) ≤ length (now chars)) ⌝ }
+    ensures { λ _. ⌜ now (part .exit) ≡ bytes (take (2 * length (now (part .entry))) (drop (4 + 2 * width) (now (chars .entry)))) ⌝ }
+{
+    let data = 4 + 2 * width;
+    let end = data + 2 * part.len();
+    hex::store_pairs(table, part, &chars[data..end]);
+}
+
+// Stores the data of a record that was checked into the middle of memory, at its address less the base.
+fn place_record(table: &[u8; 256], base: usize, memory: &mut [u8], chars: &[u8])
+    requires { ⌜ (now table ≡ digitTable) × Placeable base (length (now memory)) (carried (read (now chars))) ⌝ }
+    ensures { λ _. ⌜ now (memory .exit) ≡ storedBy base (now (memory .entry)) (carried (read (now (chars .entry)))) ⌝ }
+{
+    // only S1 to S3 have data for cells
+    let kind = chars[1];
+    if kind < b'1' {
+        return;
+    }
+    if kind > b'3' {
+        return;
+    }
+    let width = srec_read::width_of(kind);
+    let count = hex::byte_of(table, chars[2], chars[3]) as usize - (width + 1);
+    if count == 0 {
+        return;
+    }
+    let end = 4 + 2 * width;
+    let address = hex::number_of(table, &chars[4..end]) as usize;
+    let from = address - base;
+    let to = from + count;
+    store_record(table, &mut memory[from..to], chars, width);
+}
+
+// Stores the data of every record of a text that was accepted.
+pub fn store_all(table: &[u8; 256], text: &[u8], base: usize, memory: &mut [u8])
+    requires { ⌜ (now table ≡ digitTable) × Accepts (placed base (blank (length (now memory))) (plan srec (now text))) ⌝ }
+    ensures { λ _. ⌜ now (memory .exit) ≡ memoryAfter (now (memory .entry)) (placed base (blank (length (now (memory .entry)))) (plan srec (now (text .entry)))) ⌝ }
+{
+    let mut at: usize = 0;
+    loop {
+        let found = srec_lines::next_counted(table, text, at);
+        let Found::At { from, to } = found else {
+            return;
+        };
+        place_record(table, base, memory, &text[from..to]);
+        at = to;
+    }
+}
+
+// A header of no bytes.
+fn no_header() -> Header
+    ensures { λ r. ⌜ r ≡ headerOf [] ⌝ }
+{
+    Header {
+        len: 0,
+        bytes: [0u8; 252],
+    }
+}
+
+// The header that a record holds: the data of an S0, or none.
+fn header_in(table: &[u8; 256], chars: &[u8]) -> Header
+    requires { ⌜ now table ≡ digitTable ⌝ }
+    ensures { λ r. ⌜ r ≡ headerOf (headerIn (carried (read (now (chars .entry)))) []) ⌝ }
+{
+    let answer = srec_read::read_record(table, chars, 0);
+    let Record::Good(kind, _, count) = answer else {
+        return no_header();
+    };
+    if kind != b'0' {
+        return no_header();
+    }
+    let mut bytes = [0u8; 252];
+    store_record(table, &mut bytes[..count], chars, 2);
+    Header { len: count, bytes }
+}
+
+// The header of a text: that of its first record.
+pub fn header_of(table: &[u8; 256], text: &[u8]) -> Header
+    requires { ⌜ now table ≡ digitTable ⌝ }
+    ensures { λ r. ⌜ r ≡ headerOf (firstHeader (srec .part) (lines isEnd 0 (now (text .entry)))) ⌝ }
+{
+    let found = srec_lines::next_record(text, 0);
+    let Found::At { from, to } = found else {
+        return no_header();
+    };
+    header_in(table, &text[from..to])
+}

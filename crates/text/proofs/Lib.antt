@@ -1,0 +1,16 @@
+pub mod LineLaws
+pub mod FindLaws
+pub mod WalkLaws
+pub mod TurnLaws
+pub mod RunLaws
+pub mod RunWalkLaws
+pub mod FormatLaws
+pub mod LoadLaws
+pub mod RoundTrip
+pub mod Facts
+pub mod WrittenLaws
+pub mod CaseTests
+pub mod SameLaws
+pub mod ResultLaws
+pub mod CaseLaws
+pub mod StepLaws

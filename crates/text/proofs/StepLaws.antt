@@ -1,0 +1,49 @@
+-- What the code's step of a line says of the step that the definitions take, in any format that counts.
+use mathlib.Core.Path.{_≡_, refl, sym, ap, _∙_, subst}
+use Prim.Native.Nat.{ℕ, _+_, _≤_}
+use mathlib.Core.List.{List, []}
+use mathlib.Core.Logic.{_⊎_, inl, inr}
+use lib.ListN.{length}
+use Rattle.text.specs.declared.State.{State}
+use Rattle.text.specs.declared.Step.{Step}
+use Rattle.text.specs.declared.Step.the-variants.{Refuse, Pass, Put, Finish}
+use Rattle.text.specs.Scan.{Fault, State as ScanState, Step as ScanStep, more, moreData}
+use Rattle.text.specs.Scan.Step.{refuse, skip, title, put, finish}
+use Rattle.text.specs.Formats.{Format}
+use Rattle.text.specs.Steps.{stateWith, asStep}
+
+-- a format whose steps do not look at the header, and whose lines have a character for each data byte: its numbers can be kept and stay small
+pub record Counting (F : Format) : Type 0 where
+  pub headless : (h : List ℕ) (n : State) (cs : List ℕ) → F .step (stateWith h n) cs ≡ F .step (stateWith [] n) cs
+  pub roomy : (cs : List ℕ) (w a : ℕ) (ds : List ℕ) → F .part cs ≡ put w a ds → length ds ≤ length cs
+
+-- what a step in numbers says of the definitions' step; the state of its numbers is the walk's next one
+abbrev pub Says : ℕ → ScanState → Step → ScanStep → Type 0
+Says place s (Refuse reason at) x = (f : Fault) × (x ≡ refuse f) × (Refuse reason at ≡ Refuse (f .reason) (place + f .offset))
+Says place s (Pass n) x = ((x ≡ skip) × (stateWith (s .header) n ≡ more s (s .header))) ⊎ ((h : List ℕ) × (x ≡ title h) × (stateWith h n ≡ more s h))
+Says place s (Put n a c) x = (w : ℕ) × (ds : List ℕ) × (x ≡ put w a ds) × (c ≡ length ds) × (stateWith (s .header) n ≡ moreData s w (length ds))
+Says place s (Finish n e) x = (x ≡ finish e) × (stateWith (s .header) n ≡ more s (s .header))
+
+-- a step in numbers says what the step is
+says : (place : ℕ) (s : ScanState) (x : ScanStep) → Says place s (asStep place s x) x
+says place s (refuse f) = (f, refl, refl)
+says place s skip = inl (refl, refl)
+says place s (title h) = inr (h, refl, refl)
+says place s (put w a ds) = (w, ds, refl, refl, refl)
+says place s (finish e) = (refl, refl)
+
+-- the header does not matter to the numbers
+plain : (place : ℕ) (h : List ℕ) (n : State) (x : ScanStep) → asStep place (stateWith [] n) x ≡ asStep place (stateWith h n) x
+plain place h n (refuse f) = refl
+plain place h n skip = refl
+plain place h n (title t) = refl
+plain place h n (put w a ds) = refl
+plain place h n (finish e) = refl
+
+-- the answer for the numbers says what the step is, whatever the header
+pub step-says : (F : Format) → Counting F → (place : ℕ) (h : List ℕ) (n : State) (cs : List ℕ) (r : Step)
+    → r ≡ asStep place (stateWith [] n) (F .step (stateWith [] n) cs) → Says place (stateWith h n) r (F .step (stateWith h n) cs)
+step-says F k place h n cs r q =
+    subst (λ (y : Step). Says place (stateWith h n) y (F .step (stateWith h n) cs))
+    (sym (q ∙ plain place h n (F .step (stateWith [] n) cs) ∙ ap (asStep place (stateWith h n)) (sym (k .headless h n cs))))
+    (says place (stateWith h n) (F .step (stateWith h n) cs))

@@ -1,0 +1,12 @@
+pub mod Lines
+pub mod Scan
+pub mod Steps
+pub mod Runs
+pub mod Formats
+pub mod Load
+pub mod Write
+pub mod Terms
+pub mod Finds
+pub mod RoundTrip
+pub mod Facts
+pub mod Cases
