@@ -10,12 +10,13 @@ ghost use Prim.Native.Nat.{_≤_};
 ghost use lib.ListN.{length, drop, replicate};
 ghost use Rattle.hex.specs.Tables.{digitTable};
 ghost use Rattle.window.specs.Images.{blank};
-ghost use Rattle.window.specs.Plans.{placed};
+ghost use Rattle.window.specs.Plans.{refusal, placed};
 ghost use Rattle.marks.specs.Forms.{stored, marksLeft};
 ghost use Rattle.text.specs.Lines.{lines};
 ghost use Rattle.text.specs.Formats.{plan};
 ghost use Rattle.srec.specs.Lines.{isEnd};
 ghost use Rattle.srec.specs.Formats.{srec};
+ghost use Rattle.checking.specs.declared.Checked.the-variants.{Refused};
 ghost use Rattle.checking.specs.Answers.{checkedAs, MarkedBy, endedAs};
 
 // What checking a text finds.
@@ -28,6 +29,13 @@ pub enum Checked {
     },
 }
 
+// A refusal of these three numbers.
+fn refused(reason: u32, ordinal: usize, place: usize) -> Checked
+    ensures { λ r. ⌜ r ≡ Refused (refusal reason ordinal place) ⌝ }
+{
+    Checked::Refused(window::refuse(reason, ordinal, place))
+}
+
 // Row 2, or the end, behind a terminator whose last character stands before `at`.
 fn ended(text: &[u8], at: usize, state: State, entry: Entry) -> Checked
     requires { ⌜ (at ≤ length (now text)) × (state .number ≤ at) ⌝ }
@@ -35,7 +43,7 @@ fn ended(text: &[u8], at: usize, state: State, entry: Entry) -> Checked
 {
     let found = srec_lines::next_record(text, at);
     match found {
-        Found::At { from, to: _ } => Checked::Refused(window::refuse(2, state.number + 1, from)),
+        Found::At { from, to: _ } => refused(2, state.number + 1, from),
         Found::Nothing => Checked::Accepted {
             entry,
             records: state.records,
@@ -62,28 +70,21 @@ fn walk(
     loop {
         let found = srec_lines::next_record(text, at);
         let Found::At { from, to } = found else {
-            return Checked::Refused(window::refuse(14, state.number, text.len()));
+            return refused(14, state.number, text.len());
         };
-        let number = state.number + 1;
         let step = srec_read::step_of(table, state, &text[from..to], from);
         match step {
-            Step::Refuse { reason, place } => {
-                return Checked::Refused(window::refuse(reason, number, place));
-            }
-            Step::Finish { next, entry } => return ended(text, to, next, entry),
+            Step::Refuse(reason, place) => return refused(reason, state.number + 1, place),
+            Step::Finish(next, entry) => return ended(text, to, next, entry),
             Step::Pass(next) => {
                 state = next;
                 at = to;
                 continue;
             }
-            Step::Put {
-                next,
-                address,
-                count,
-            } => {
+            Step::Put(next, address, count) => {
                 let reason = marks::claim(form, marks, cells, base, address as usize, count);
                 if reason != 0 {
-                    return Checked::Refused(window::refuse(reason, number, from));
+                    return refused(reason, state.number + 1, from);
                 }
                 state = next;
                 at = to;

@@ -2,7 +2,6 @@
 use mathlib.Core.Path.{_≡_, refl, sym, ap, _∙_, subst}
 use Prim.Native.Nat.{ℕ, _+_, _*_, _^_, _≤_, _<_}
 use native.Mathlib.Nat.{add-zero}
-use native.Mathlib.Numerals.{add-one}
 use native.Mathlib.Omega.{arith}
 use mathlib.Core.Bool.{true, false}
 use mathlib.Core.List.{List, []}
@@ -17,9 +16,9 @@ use Rattle.window.specs.declared.Entry.the-variants.{Present}
 use Rattle.text.specs.declared.State.{State}
 use Rattle.text.specs.declared.Step.{Step}
 use Rattle.text.specs.declared.Step.the-variants.{Refuse, Pass, Put, Finish}
-use Rattle.text.specs.Scan.{State as ScanState}
+use Rattle.text.specs.Scan.{State as ScanState, more, moreData}
 use Rattle.text.specs.Scan.Step.{put}
-use Rattle.text.specs.Steps.{stateWith, asStep}
+use Rattle.text.specs.Steps.{numbers, stateWith, asStep}
 use Rattle.text.proofs.StepLaws.{Counting}
 use Rattle.srec.specs.Reading.{Read, read}
 use Rattle.srec.specs.Reading.Read.{good, bad}
@@ -75,9 +74,9 @@ module _ (place : ℕ) (n : State) (k : Kind) (a count : ℕ) where
   abbrev taken : Step
   taken = asStep place (stateWith [] n) (judge (stateWith [] n) k a (replicate count 0))
 
-  -- the same with one record more
+  -- the state behind one record more
   abbrev next : State
-  next = record { number = n .number + 1; records = n .records; cells = n .cells; width = n .width }
+  next = numbers (more (stateWith [] n) [])
 
   -- an S0 that is not the first record
   pub row-8 : k ≡ S0 → (n .number ≡ 0 → ⊥) → Refuse 8 place ≡ taken
@@ -87,7 +86,7 @@ module _ (place : ℕ) (n : State) (k : Kind) (a count : ℕ) where
   -- an S0 that is the first record
   pub passed-s0 : k ≡ S0 → n .number ≡ 0 → Pass next ≡ taken
   unfolding judge row8
-  passed-s0 e z = rw (e, eq-eqb (n .number) 0 z, add-one)
+  passed-s0 e z = rw (e, eq-eqb (n .number) 0 z)
 
   -- an S5 with another number
   pub row-10 : k ≡ S5 → (a ≡ n .records → ⊥) → Refuse 10 place ≡ taken
@@ -97,7 +96,7 @@ module _ (place : ℕ) (n : State) (k : Kind) (a count : ℕ) where
   -- an S5 with the right number
   pub passed-s5 : k ≡ S5 → a ≡ n .records → Pass next ≡ taken
   unfolding judge row10
-  passed-s5 e z = rw (e, eq-eqb a (n .records) z, add-one)
+  passed-s5 e z = rw (e, eq-eqb a (n .records) z)
 
   -- data and terminators
   abbrev pub Other : ℕ → Type 0
@@ -116,7 +115,7 @@ module _ (place : ℕ) (n : State) (k : Kind) (a count : ℕ) where
   -- a terminator of the right width
   pub finished : (w : ℕ) → k ≡ End w → row9 (n .width) w ≡ false → Finish next (Present a) ≡ taken
   unfolding judge row9
-  finished w e z = rw (e, z, add-one)
+  finished w e z = rw (e, z)
 
   -- the data passes the end of the width
   pub row-11 : (w : ℕ) → k ≡ Data w → row9 (n .width) w ≡ false → 2 ^ (8 * w) < a + count → Refuse 11 place ≡ taken
@@ -125,9 +124,9 @@ module _ (place : ℕ) (n : State) (k : Kind) (a count : ℕ) where
 
   -- data of the right width, within it
   pub stored : (w : ℕ) → k ≡ Data w → row9 (n .width) w ≡ false → a + count ≤ 2 ^ (8 * w)
-      → Put (record { number = n .number + 1; records = n .records + 1; cells = n .cells + count; width = w }) a count ≡ taken
+      → Put (numbers (moreData (stateWith [] n) w count)) a count ≡ taken
   unfolding judge row9 row11
-  stored w e z l = rw (e, z, length-replicate, le-ltb (2 ^ (8 * w)) (a + count) l, length-replicate, add-one (n .number), add-one (n .records))
+  stored w e z l = rw (e, z, length-replicate, le-ltb (2 ^ (8 * w)) (a + count) l, length-replicate)
 
 -- ---- the numbers decide the step
 

@@ -121,50 +121,32 @@ fn judge(state: State, kind: u8, address: u32, count: usize, place: usize) -> St
     requires { ⌜ (isKnown (kindOf kind) ≡ true) × (state .number + 1 < 2 ^ 64) × (state .records + 1 < 2 ^ 64) × (state .cells + count < 2 ^ 64) × (count < 2 ^ 32) ⌝ }
     ensures { λ r. ⌜ r ≡ asStep place (stateWith [] state) (judgeScan (stateWith [] state) (known (kindOf kind)) address (replicate count 0)) ⌝ }
 {
-    let number = state.number + 1;
-    let next = State {
-        number,
-        records: state.records,
-        cells: state.cells,
-        width: state.width,
-    };
+    let next = text::after_line(state);
     if kind == b'0' {
         if state.number != 0 {
-            return Step::Refuse { reason: 8, place };
+            return Step::Refuse(8, place);
         }
         return Step::Pass(next);
     }
     if kind == b'5' {
         if address as usize != state.records {
-            return Step::Refuse { reason: 10, place };
+            return Step::Refuse(10, place);
         }
         return Step::Pass(next);
     }
     let width = width_of(kind);
     if differs(state.width, width) {
-        return Step::Refuse { reason: 9, place };
+        return Step::Refuse(9, place);
     }
     // S7 to S9 end the text; S1 to S3 are left
     if kind > b'5' {
-        return Step::Finish {
-            next,
-            entry: Entry::Present(address),
-        };
+        return Step::Finish(next, Entry::Present(address));
     }
     if address as usize + count > limit(width) {
-        return Step::Refuse { reason: 11, place };
+        return Step::Refuse(11, place);
     }
-    let more = State {
-        number,
-        records: state.records + 1,
-        cells: state.cells + count,
-        width,
-    };
-    Step::Put {
-        next: more,
-        address,
-        count,
-    }
+    let more = text::after_data(state, width, count);
+    Step::Put(more, address, count)
 }
 
 // The refusal of a record that cannot be read.
@@ -172,11 +154,8 @@ fn unread(answer: Record) -> Step
     ensures { λ r. ⌜ ((reason place : ℕ) → answer ≡ Bad reason place → r ≡ Refuse reason place) ⌝ }
 {
     match answer {
-        Record::Bad(reason, place) => Step::Refuse { reason, place },
-        Record::Good(_, _, _) => Step::Refuse {
-            reason: 0,
-            place: 0,
-        },
+        Record::Bad(reason, place) => Step::Refuse(reason, place),
+        Record::Good(_, _, _) => Step::Refuse(0, 0),
     }
 }
 

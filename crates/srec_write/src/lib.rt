@@ -153,30 +153,22 @@ pub fn write(
     if header.len() > MOST_HEADER {
         return refused(15, 0);
     }
+    let form = Form::Bytes;
     let cells = memory.len();
-    let bad = marks::first_bad(Form::Bytes, marks, cells);
+    let bad = marks::first_bad(form, marks, cells);
     if let Bad::At(place) = bad {
         return refused(16, place);
     }
     let Entry::Present(start) = entry else {
         return refused(18, 0);
     };
-    let size = srec_size::size_of(base, Form::Bytes, marks, cells, start);
+    let size = srec_size::size_of(base, form, marks, cells, start);
     let width = srec_size::width_for(size.largest);
     let need = text_length(size, header.len(), width);
     if out.len() < need {
         return refused(17, need);
     }
-    put_text(
-        out,
-        base,
-        memory,
-        Form::Bytes,
-        marks,
-        header,
-        start,
-        size.records,
-        width,
-    );
+    let count = size.records;
+    put_text(out, base, memory, form, marks, header, start, count, width);
     accepted(need)
 }

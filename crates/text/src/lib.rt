@@ -1,8 +1,10 @@
 // What a walk over the lines of a text keeps, and what finding a line and a step answer.
 use window::Entry;
 ghost use mathlib.Core.Path.{_≡_};
-ghost use Rattle.text.specs.Scan.{start as startScan};
-ghost use Rattle.text.specs.Steps.{numbers};
+ghost use Prim.Native.Nat.{_+_, _^_, _<_};
+ghost use mathlib.Core.List.{[]};
+ghost use Rattle.text.specs.Scan.{start as startScan, more, moreData};
+ghost use Rattle.text.specs.Steps.{numbers, stateWith};
 
 // Where a line stands: from its first character to behind its last.
 pub enum Found {
@@ -19,22 +21,13 @@ pub struct State {
     pub width: usize,
 }
 
-// What one line does: a row refuses it at a place of the text, or it is passed, or it has data, or it ends the text.
+// What one line does: a row refuses it at a place of the text; or it is passed; or it has so many data bytes for an address; or it
+// ends the text, with an entry or none. Those that do not refuse it have the state behind the line.
 pub enum Step {
-    Refuse {
-        reason: u32,
-        place: usize,
-    },
+    Refuse(u32, usize),
     Pass(State),
-    Put {
-        next: State,
-        address: u32,
-        count: usize,
-    },
-    Finish {
-        next: State,
-        entry: Entry,
-    },
+    Put(State, u32, usize),
+    Finish(State, Entry),
 }
 
 // Before the first line.
@@ -46,5 +39,31 @@ pub fn start() -> State
         records: 0,
         cells: 0,
         width: 0,
+    }
+}
+
+// Behind one line more, without data.
+pub fn after_line(state: State) -> State
+    requires { ⌜ state .number + 1 < 2 ^ 64 ⌝ }
+    ensures { λ r. ⌜ r ≡ numbers (more (stateWith [] state) []) ⌝ }
+{
+    State {
+        number: state.number + 1,
+        records: state.records,
+        cells: state.cells,
+        width: state.width,
+    }
+}
+
+// Behind one data line more, with an address of `width` bytes and `count` data bytes.
+pub fn after_data(state: State, width: usize, count: usize) -> State
+    requires { ⌜ (state .number + 1 < 2 ^ 64) × (state .records + 1 < 2 ^ 64) × (state .cells + count < 2 ^ 64) ⌝ }
+    ensures { λ r. ⌜ r ≡ numbers (moreData (stateWith [] state) width count) ⌝ }
+{
+    State {
+        number: state.number + 1,
+        records: state.records + 1,
+        cells: state.cells + count,
+        width,
     }
 }

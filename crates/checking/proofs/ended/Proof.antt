@@ -1,9 +1,8 @@
 -- `ended` meets its contract: a record behind the terminator, or none.
-use mathlib.Core.Path.{sym, ap, _∙_}
+use mathlib.Core.Path.{sym, _∙_}
 use lib.ListN.{drop}
 use Rattle.text.specs.Lines.{lines}
 use Rattle.srec.specs.Lines.{isEnd}
-use Rattle.checking.specs.declared.Checked.the-variants.{Refused}
 use Rattle.checking.proofs.EndLaws.{row-2, at-end}
 use borrow.Author.Needs.{needs}
 use Rattle.checking.proofs.ended.Statement.{statement}
@@ -15,7 +14,7 @@ returns c =
     let at-next-record = at-found .before .before in
     let at-args = at-next-record .before .before in
     let a = at-args .args in
-    ap Refused (c .refuse .ensures)
+    c .refused .ensures
     ∙ row-2 (a .state) (a .entry) _ _ (lines isEnd (a .at) (drop (a .at) (a .text .now)))
     (sym (at-found .found .given .1) ∙ at-next-record .next-record .ensures)
 

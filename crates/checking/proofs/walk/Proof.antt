@@ -1,7 +1,7 @@
 -- `walk` meets its contract. The loop's invariant: what is left to walk gives what the whole gives, and the marks show its image.
 -- Each way out and each way round is one law of CheckLaws.
 use mathlib.Core.Path.{_≡_, refl, sym, _∙_}
-use Prim.Native.Nat.{_-_, _^_}
+use Prim.Native.Nat.{_+_, _-_, _^_, _<_}
 use native.Mathlib.Omega.{arith}
 use lib.ListN.{length}
 use Rattle.text.proofs.FindLaws.{Next, next-is}
@@ -20,15 +20,21 @@ Inv-loop table text base form marks₀ cells state₀ at₀ marks state at = (le
 abbrev μ-loop : tie.MeasureT-loop
 μ-loop table text base form marks₀ cells state₀ at₀ marks state at = length text - at
 
--- places: the loop's head before the line at hand, and that line before its step
+-- places: the loop's head before the record at hand, the call, and the record before its step
 abbrev head : tie.After-found Inv-loop μ-loop → tie.At-loop Inv-loop μ-loop
 head c = c .before .before .before
 
-abbrev line : tie.After-step-of Inv-loop μ-loop → tie.After-found Inv-loop μ-loop
-line c = c .before .before .before .before
+abbrev call : tie.At-loop Inv-loop μ-loop → tie.Start Inv-loop μ-loop
+call c = c .before .before .before .before
 
--- the line at hand
-next-at : (c : tie.After-found Inv-loop μ-loop) → Next isEnd (c .before .before .before .before .before .before .before .args .text .now) (head c .loop .at) (c .found .given .0 .0) (c .found .given .0 .1 .0)
+abbrev line : tie.After-step-of Inv-loop μ-loop → tie.After-found Inv-loop μ-loop
+line c = c .before .before .before
+
+abbrev own : tie.After-step-of Inv-loop μ-loop → tie.At-loop Inv-loop μ-loop
+own c = head (line c)
+
+-- the record at hand
+next-at : (c : tie.After-found Inv-loop μ-loop) → Next isEnd (call (head c) .args .text .now) (head c .loop .at) (c .found .given .0 .0) (c .found .given .0 .1 .0)
 next-at c = next-is isEnd _ _ _ _ (head c .loop .inv .1 .walk .inside) (sym (c .found .given .1) ∙ c .before .before .next-record .ensures)
 
 loop-holds : tie.Need-loop-holds Inv-loop μ-loop
@@ -43,48 +49,53 @@ same-length c = c .before .before .before .before .loop .inv .0
 returns : tie.Need-returns Inv-loop μ-loop
 returns c =
     let at-next-record = c .before .before .before in
-    rw (c .refuse .ensures) (row-14 lawful counting (at-next-record .before .loop .inv .1) _
+    rw (c .refused .ensures) (row-14 lawful counting (at-next-record .before .loop .inv .1) _
     (sym (c .before .enum-told .given .1) ∙ at-next-record .next-record .ensures))
 
-add-number : tie.Need-add-number Inv-loop μ-loop
-add-number c = let x = next-at (c .before .before) in let l = head (c .before .before) .loop in record { fits = omega (arith, l .inv .1 .few .0, x .low, x .some-chars, x .high) }
-
 sub-step-of : tie.Need-sub-step-of Inv-loop μ-loop
-sub-step-of c = omega (arith, next-at (c .before .before) .some-chars)
+sub-step-of c = omega (arith, next-at (c .before) .some-chars)
 
 part-step-of-start : tie.Need-part-step-of-start Inv-loop μ-loop
-part-step-of-start c = omega (arith, next-at (c .before .before) .some-chars, next-at (c .before .before) .high)
+part-step-of-start c = omega (arith, next-at (c .before) .some-chars, next-at (c .before) .high)
 
 part-step-of-end : tie.Need-part-step-of-end Inv-loop μ-loop
-part-step-of-end c = omega (arith, next-at (c .before .before) .high)
+part-step-of-end c = omega (arith, next-at (c .before) .high)
 
 step-of-requires : tie.Need-step-of-requires Inv-loop μ-loop
 step-of-requires c κs =
-    let at-found = c .before .before .before in
-    let s = head at-found .before .before .before .before in
+    let at-found = c .before .before in
     let f = fits lawful counting (head at-found .loop .inv .1) (next-at at-found) (2 ^ 64) (omega arith) in
-    ((s .pre .0, f .0), f .1)
+    ((call (head at-found) .pre .0, f .0), f .1)
+
+-- the number of the record fits
+number-fits : (c : tie.After-step-of Inv-loop μ-loop) → own c .loop .state .number + 1 < 2 ^ 64
+number-fits c = let x = next-at (line c) in omega (arith, own c .loop .inv .1 .few .0, x .low, x .some-chars, x .high)
+
+add-refused : tie.Need-add-refused Inv-loop μ-loop
+add-refused c = record { fits = number-fits (c .before .before .before .before) }
 
 same-length-2 : tie.Need-same-length-2 Inv-loop μ-loop
-same-length-2 c = head (line (c .before .before .before .before)) .loop .inv .0
+same-length-2 c = own (c .before .before .before .before .before) .loop .inv .0
 
 returns-2 : tie.Need-returns-2 Inv-loop μ-loop
 returns-2 c =
-    let j = c .before .before .before .before in
-    rw (c .refuse2 .ensures) (told-refused lawful counting (head (line j) .loop .inv .1) (next-at (line j)) (j .step-of .ensures) _ (c .before .before .step .given .1))
+    let at-step = c .before .before .before in
+    let j = at-step .before .before in
+    rw (c .refused2 .ensures) (told-refused lawful counting (own j .loop .inv .1) (next-at (line j)) (j .step-of .ensures) _ (at-step .step .given .1))
 
 ended-requires : tie.Need-ended-requires Inv-loop μ-loop
 ended-requires c κs =
     let j = c .before .before .before in
-    (next-at (line j) .high, last-few lawful counting (head (line j) .loop .inv .1) (next-at (line j)) (j .step-of .ensures) (c .before .step2 .given .1))
+    (next-at (line j) .high, last-few lawful counting (own j .loop .inv .1) (next-at (line j)) (j .step-of .ensures) (c .before .step2 .given .1))
 
 same-length-3 : tie.Need-same-length-3 Inv-loop μ-loop
-same-length-3 c = head (line (c .before .before .before .before)) .loop .inv .0
+same-length-3 c = own (c .before .before .before .before) .loop .inv .0
 
 returns-3 : tie.Need-returns-3 Inv-loop μ-loop
 returns-3 c =
-    let j = c .before .before .before .before in
-    rw (c .ended .ensures) (told-ended lawful counting (head (line j) .loop .inv .1) (next-at (line j)) (j .step-of .ensures) (c .before .before .step2 .given .1) _ refl)
+    let at-step = c .before .before in
+    let j = at-step .before .before in
+    rw (c .ended .ensures) (told-ended lawful counting (own j .loop .inv .1) (next-at (line j)) (j .step-of .ensures) (at-step .step2 .given .1) _ refl)
 
 loop-less : tie.Need-loop-less Inv-loop μ-loop
 loop-less c = let x = next-at (line (c .before .before .before)) in omega (arith, x .low, x .some-chars, x .high)
@@ -92,37 +103,43 @@ loop-less c = let x = next-at (line (c .before .before .before)) in omega (arith
 loop-again : tie.Need-loop-again Inv-loop μ-loop
 loop-again c =
     let j = c .before .before .before in
-    let l = head (line j) .loop in
+    let l = own j .loop in
     (l .inv .0, going-pass lawful counting (l .inv .1) (next-at (line j)) (j .step-of .ensures) (c .before .step3 .given .1))
 
+-- a data record, and the claim of its cells
+abbrev stepped : tie.After-claim Inv-loop μ-loop → tie.After-step4 Inv-loop μ-loop
+stepped c = c .before .before .before
+
+abbrev taken : tie.After-claim Inv-loop μ-loop → tie.After-step-of Inv-loop μ-loop
+taken c = stepped c .before .before
+
 claim-requires : tie.Need-claim-requires Inv-loop μ-loop
-claim-requires c κs = tidy-now lawful counting (head (line (c .before .before .before .before)) .loop .inv .1)
+claim-requires c κs = tidy-now lawful counting (own (c .before .before .before .before) .loop .inv .1)
+
+add-refused-2 : tie.Need-add-refused-2 Inv-loop μ-loop
+add-refused-2 c = record { fits = number-fits (taken (c .before .before .before .before)) }
 
 same-length-4 : tie.Need-same-length-4 Inv-loop μ-loop
-same-length-4 c =
-    let at-claim = c .before .before .before .before in
-    at-claim .claim .kept .1 .0 ∙ head (line (at-claim .before .before .before .before .before)) .loop .inv .0
+same-length-4 c = let k = c .before .before .before .before .before in k .claim .kept .1 .0 ∙ own (taken k) .loop .inv .0
 
 returns-4 : tie.Need-returns-4 Inv-loop μ-loop
 returns-4 c =
-    let at-claim = c .before .before .before .before in
-    let at-step4 = at-claim .before .before .before in
-    let j = at-step4 .before .before in
-    rw (c .refuse3 .ensures) (told-claim lawful counting (head (line j) .loop .inv .1) (next-at (line j)) (j .step-of .ensures) (at-step4 .step4 .given .1)
-    (at-claim .claim .ensures .0) _ (c .before .if1 .taken))
+    let k = c .before .before .before .before .before in
+    let j = taken k in
+    rw (c .refused3 .ensures) (told-claim lawful counting (own j .loop .inv .1) (next-at (line j)) (j .step-of .ensures) (stepped k .step4 .given .1)
+    (k .claim .ensures .0) _ (c .before .before .if1 .taken))
 
 loop-less-2 : tie.Need-loop-less-2 Inv-loop μ-loop
-loop-less-2 c = let x = next-at (line (c .before .before .before .before .before .before .before .before)) in omega (arith, x .low, x .some-chars, x .high)
+loop-less-2 c = let x = next-at (line (taken (c .before .before .before))) in omega (arith, x .low, x .some-chars, x .high)
 
 loop-again-2 : tie.Need-loop-again-2 Inv-loop μ-loop
 loop-again-2 c =
-    let at-claim = c .before .before .before in
-    let at-step4 = at-claim .before .before .before in
-    let j = at-step4 .before .before in
-    let l = head (line j) .loop in (
-      at-claim .claim .kept .1 .0 ∙ l .inv .0,
-      going-put lawful counting (l .inv .1) (next-at (line j)) (j .step-of .ensures) (at-step4 .step4 .given .1)
-          (at-claim .claim .ensures .0) _ (c .if1 .left) (at-claim .claim .ensures .1),
+    let k = c .before .before .before in
+    let j = taken k in
+    let l = own j .loop in (
+      k .claim .kept .1 .0 ∙ l .inv .0,
+      going-put lawful counting (l .inv .1) (next-at (line j)) (j .step-of .ensures) (stepped k .step4 .given .1)
+          (k .claim .ensures .0) _ (c .if1 .left) (k .claim .ensures .1),
     )
 
 pub walk-spec : {M : Type 1} → statement M
@@ -139,12 +156,12 @@ walk-spec =
     (λ c κs. search needs)
     same-length
     returns
-    add-number
     sub-step-of
     part-step-of-start
     part-step-of-end
     step-of-requires
     (λ c. search needs)
+    add-refused
     (λ c κs. search needs)
     same-length-2
     returns-2
@@ -158,6 +175,7 @@ walk-spec =
     (λ c. search needs)
     (λ c. search needs)
     claim-requires
+    add-refused-2
     (λ c κs. search needs)
     same-length-4
     returns-4

@@ -1,71 +1,74 @@
 -- `convert` meets its contract: each way out is one law of ConvertLaws, and memory and marks are as the load left them.
 use mathlib.Core.Path.{sym, ap, _∙_}
+use Prim.Native.Nat.{ℕ}
+use mathlib.Core.List.{List}
 use lib.ListN.{length}
 use lib.Seq.{length-take-le}
 use Rattle.window.specs.declared.Loaded.{Loaded}
 use Rattle.window.specs.declared.Written.{Written}
 use Rattle.text.specs.Terms.{Accepted}
 use Rattle.srec.specs.Formats.{srec}
-use Rattle.window.specs.Windows.{windowOf}
+use Rattle.window.specs.Windows.{Window, windowOf}
 use Rattle.convert.proofs.ConvertLaws.{header-fits, written-is, load-refused, write-refused, text-written}
 use borrow.Author.Needs.{needs}
 use Rattle.convert.proofs.convert.Statement.{statement}
 use Rattle.convert.proofs.convert.Tie as tie
 
+-- places: the load behind a place, its call, and its window
+abbrev call : tie.After-load → tie.Start
+call c = c .before .before .before .before .before .before .before
+
+abbrev window : tie.After-load → Window
+window c = let a = call c .args in windowOf (a .base) (a .memory .now) (a .marks .now)
+
+abbrev text : tie.After-load → List ℕ
+text c = call c .args .text .now
+
+abbrev out : tie.After-load → List ℕ
+out c = call c .args .out .now
+
+abbrev behind : tie.Else1 → tie.After-load
+behind c = c .before .before .before .before .before .before .before
+
+abbrev passed : tie.After-write → tie.Else1
+passed c = c .before .before .before .before .before .before .before
+
+-- the load was accepted, and the write is the one behind it
+accepted-at : (c : tie.Else1) → Accepted srec (window (behind c)) (text (behind c))
+accepted-at c = sym (ap (λ (x : Loaded). x .refusal .reason) (behind c .load .ensures .0)) ∙ c .if1 .left
+
 returns : tie.Need-returns
 returns c =
-    let s = c .before .before .before .before .before .before .before .before .before .before .before .before .before .before in
-    let l = c .before .before .before .before .before .before .before .load in
-    let W = windowOf (s .args .base) (s .args .memory .now) (s .args .marks .now) in
-    let r = load-refused W (s .args .text .now) (s .args .out .now) _ (ap (λ (x : Loaded). x .refusal) (l .ensures .0)) (c .if1 .taken) in
-    (r .0, (l .ensures .1 .0, (l .ensures .1 .1, r .1)))
+    let l = c .before .before .before .before .before .before .before in
+    let r = load-refused (window l) (text l) (out l) _ (ap (λ (x : Loaded). x .refusal) (l .load .ensures .0)) (c .if1 .taken) in
+    (r .0, (l .load .ensures .1 .0, (l .load .ensures .1 .1, r .1)))
 
 array-share-prefix-bytes : tie.Need-array-share-prefix-bytes
-array-share-prefix-bytes c =
-    let s = c .before .before .before .before .before .before .before .before .before .before .before .before .before .before .before .before .before .before in
-    let l = c .before .before .before .before .before .before .before .before .before .before .before .load in
-    let W = windowOf (s .args .base) (s .args .memory .now) (s .args .marks .now) in
-    rw (l .ensures .0) (header-fits W (s .args .text .now))
+array-share-prefix-bytes c = let l = behind (c .before .before .before .before) in rw (l .load .ensures .0) (header-fits (window l) (text l))
 
 slice-aggregate-write : tie.Need-slice-aggregate-write
 slice-aggregate-write c =
-    let at-load = c .before .before .before .before .before .before .before .before .before .before .before .before in
-    let s = at-load .before .before .before .before .before .before .before in
-    let l = at-load .load in
-    let W = windowOf (s .args .base) (s .args .memory .now) (s .args .marks .now) in
-    sym (length-take-le _ _ (rw (l .ensures .0) (header-fits W (s .args .text .now))))
+    let l = behind (c .before .before .before .before .before) in
+    sym (length-take-le _ _ (rw (l .load .ensures .0) (header-fits (window l) (text l))))
 
 returns-2 : tie.Need-returns-2
 returns-2 c =
-    let at-write = c .before .before .before .before .before in
-    let at-if1 = at-write .before .before .before .before .before .before .before in
-    let at-load = at-if1 .before .before .before .before .before .before .before in
-    let s = at-load .before .before .before .before .before .before .before in
-    let l = at-load .load in
-    let W = windowOf (s .args .base) (s .args .memory .now) (s .args .marks .now) in
-    let a : Accepted srec W (s .args .text .now) = sym (ap (λ (x : Loaded). x .refusal .reason) (l .ensures .0)) ∙ at-if1 .if1 .left in
-    let w = at-write .write in
-    let is = written-is W (s .args .text .now) (length (s .args .out .now)) (l .result) _ _ (l .ensures .0) (l .ensures .1 .0)
-    (l .ensures .1 .1) in
-    let r = write-refused W (s .args .text .now) (s .args .out .now) a _ is _ _ (ap (λ (x : Written). x .refusal) (w .ensures .0)) (c .if2 .taken) (w .ensures .1) in
-    (r .0, (l .ensures .1 .0, (l .ensures .1 .1, r .1)))
+    let w = c .before .before .before .before .before in
+    let l = behind (passed w) in
+    let e = l .load .ensures in
+    let is = written-is (window l) (text l) (length (out l)) (l .load .result) _ _ (e .0) (e .1 .0) (e .1 .1) in
+    let r = write-refused (window l) (text l) (out l) (accepted-at (passed w)) _ is _ _ (ap (λ (x : Written). x .refusal) (w .write .ensures .0)) (c .if2 .taken) (w .write .ensures .1) in
+    (r .0, (e .1 .0, (e .1 .1, r .1)))
 
 returns-3 : tie.Need-returns-3
 returns-3 c =
-    let at-write = c .before .before .before .before .before in
-    let at-if1 = at-write .before .before .before .before .before .before .before in
-    let at-load = at-if1 .before .before .before .before .before .before .before in
-    let s = at-load .before .before .before .before .before .before .before in
-    let l = at-load .load in
-    let W = windowOf (s .args .base) (s .args .memory .now) (s .args .marks .now) in
-    let a : Accepted srec W (s .args .text .now) = sym (ap (λ (x : Loaded). x .refusal .reason) (l .ensures .0)) ∙ at-if1 .if1 .left in
-    let w = at-write .write in
-    let is = written-is W (s .args .text .now) (length (s .args .out .now)) (l .result) _ _ (l .ensures .0) (l .ensures .1 .0)
-    (l .ensures .1 .1) in
-    let r = text-written W (s .args .text .now) (s .args .out .now) a _ is _ _
-    (sym (ap (λ (x : Written). x .refusal .reason) (w .ensures .0)) ∙ c .if2 .left) (ap (λ (x : Written). x .length) (w .ensures .0))
-    (w .ensures .1) in
-    (r .0, (l .ensures .1 .0, (l .ensures .1 .1, r .1)))
+    let w = c .before .before .before .before .before in
+    let l = behind (passed w) in
+    let e = l .load .ensures in
+    let is = written-is (window l) (text l) (length (out l)) (l .load .result) _ _ (e .0) (e .1 .0) (e .1 .1) in
+    let r = text-written (window l) (text l) (out l) (accepted-at (passed w)) _ is _ _
+    (sym (ap (λ (x : Written). x .refusal .reason) (w .write .ensures .0)) ∙ c .if2 .left) (ap (λ (x : Written). x .length) (w .write .ensures .0)) (w .write .ensures .1) in
+    (r .0, (e .1 .0, (e .1 .1, r .1)))
 
 pub convert-spec : {M : Type 1} → statement M
 convert-spec =

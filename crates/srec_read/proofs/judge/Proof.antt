@@ -1,112 +1,115 @@
 -- `judge` meets its contract: each way out is one law of JudgeLaws.
 use mathlib.Core.Path.{_≡_, sym, _∙_}
+use Prim.Native.Nat.{ℕ}
 use native.Mathlib.Omega.{arith}
 use mathlib.Core.Bool.{true, false}
-use Rattle.srec.specs.Kinds.{kindOf, known}
-use Rattle.srec_read.specs.Records.{widthOr0}
+use Rattle.srec.specs.Kinds.{Kind, kindOf, known}
+use Rattle.srec.specs.Kinds.Kind.{Data}
 use Rattle.srec.specs.Judging.{row9}
-use Rattle.srec_read.proofs.JudgeLaws.{sort-of, row-8, passed-s0, row-10, passed-s5, row-9, other, finished, row-11, stored}
+use Rattle.srec_read.specs.Records.{widthOr0}
+use Rattle.srec_read.proofs.JudgeLaws.{Sort, sort-of, row-8, passed-s0, row-10, passed-s5, row-9, other, finished, row-11, stored}
 use borrow.Author.Needs.{needs}
 use Rattle.srec_read.proofs.judge.Statement.{statement}
 use Rattle.srec_read.proofs.judge.Tie as tie
 
+-- the call, its kind, and what its type character says of that
+module _ (c : tie.After-after-line) where
+  abbrev call : tie.Start
+  call = c .before
+
+  abbrev kind : Kind
+  kind = known (kindOf (call .args .kind))
+
+  abbrev width : ℕ
+  width = widthOr0 (kindOf (call .args .kind))
+
+  sorted : Sort (call .args .kind) width kind
+  sorted = sort-of (call .args .kind) (call .pre .0)
+
+-- behind the tests for S0 and S5 the width is known
+abbrev start : tie.After-width-of → tie.After-after-line
+start c = c .before .before .before
+
+width-at : (c : tie.After-width-of) → width (start c) ≡ c .width-of .result
+width-at c = sym (c .width-of .ensures .0)
+
 returns : tie.Need-returns
 returns c =
-    let s = c .before .before .before .before in
-    let a = s .args in
-    let t = sort-of (a .kind) (s .pre .0) in
-    row-8 (a .place) (a .state) (known (kindOf (a .kind))) (a .address) (a .count) (t .s0 (c .before .before .if1 .taken)) (c .if2 .taken)
+    let s = c .before .before .before in
+    let a = call s .args in
+    row-8 (a .place) (a .state) (kind s) (a .address) (a .count) (sorted s .s0 (c .before .before .if1 .taken)) (c .if2 .taken)
 
 returns-2 : tie.Need-returns-2
 returns-2 c =
-    let s = c .before .before .before .before in
-    let a = s .args in
-    let t = sort-of (a .kind) (s .pre .0) in
-    passed-s0 (a .place) (a .state) (known (kindOf (a .kind))) (a .address) (a .count) (t .s0 (c .before .before .if1 .taken)) (c .if2 .left)
+    let s = c .before .before .before in
+    let a = call s .args in
+    rw (s .after-line .ensures) (passed-s0 (a .place) (a .state) (kind s) (a .address) (a .count) (sorted s .s0 (c .before .before .if1 .taken)) (c .if2 .left))
 
 returns-3 : tie.Need-returns-3
 returns-3 c =
-    let s = c .before .before .before .before .before in
-    let a = s .args in
-    let t = sort-of (a .kind) (s .pre .0) in
-    row-10 (a .place) (a .state) (known (kindOf (a .kind))) (a .address) (a .count) (t .s5 (c .before .before .if3 .taken)) (c .if4 .taken)
+    let s = c .before .before .before .before in
+    let a = call s .args in
+    row-10 (a .place) (a .state) (kind s) (a .address) (a .count) (sorted s .s5 (c .before .before .if3 .taken)) (c .if4 .taken)
 
 returns-4 : tie.Need-returns-4
 returns-4 c =
-    let s = c .before .before .before .before .before in
-    let a = s .args in
-    let t = sort-of (a .kind) (s .pre .0) in
-    passed-s5 (a .place) (a .state) (known (kindOf (a .kind))) (a .address) (a .count) (t .s5 (c .before .before .if3 .taken)) (c .if4 .left)
+    let s = c .before .before .before .before in
+    let a = call s .args in
+    rw (s .after-line .ensures) (passed-s5 (a .place) (a .state) (kind s) (a .address) (a .count) (sorted s .s5 (c .before .before .if3 .taken)) (c .if4 .left))
 
 returns-5 : tie.Need-returns-5
 returns-5 c =
-    let at-width-of = c .before .before in
-    let at-if3 = at-width-of .before in
-    let at-if1 = at-if3 .before in
-    let s = at-if1 .before .before in
-    let a = s .args in
-    let t = sort-of (a .kind) (s .pre .0) in
-    let w : widthOr0 (kindOf (a .kind)) ≡ at-width-of .width-of .result = sym (at-width-of .width-of .ensures .0) in
-    let d : row9 (a .state .width) (widthOr0 (kindOf (a .kind))) ≡ true = rw w (sym (c .before .differs .ensures) ∙ c .if5 .taken) in
-    row-9 (a .place) (a .state) (known (kindOf (a .kind))) (a .address) (a .count) _
-    (other (a .place) (a .state) (known (kindOf (a .kind))) (a .address) (a .count) (a .kind) t (at-if1 .if1 .left) (at-if3 .if3 .left)) d
+    let w = c .before .before in
+    let s = start w in
+    let a = call s .args in
+    let d : row9 (a .state .width) (width s) ≡ true = rw (width-at w) (sym (c .before .differs .ensures) ∙ c .if5 .taken) in
+    row-9 (a .place) (a .state) (kind s) (a .address) (a .count) _
+    (other (a .place) (a .state) (kind s) (a .address) (a .count) (a .kind) (sorted s) (w .before .before .if1 .left) (w .before .if3 .left)) d
+
+-- row 9 does not apply
+one-width : (c : tie.Else5) → let s = start (c .before .before) in row9 (call s .args .state .width) (width s) ≡ false
+one-width c = rw (width-at (c .before .before)) (sym (c .before .differs .ensures) ∙ c .if5 .left)
 
 returns-6 : tie.Need-returns-6
 returns-6 c =
-    let s = c .before .before .before .before .before .before .before in
-    let a = s .args in
-    let t = sort-of (a .kind) (s .pre .0) in
-    let w : widthOr0 (kindOf (a .kind)) ≡ c .before .before .before .width-of .result = sym (c .before .before .before .width-of .ensures .0) in
-    let d : row9 (a .state .width) (widthOr0 (kindOf (a .kind))) ≡ false = rw w (sym (c .before .before .differs .ensures) ∙ c .before .if5 .left) in
-    finished (a .place) (a .state) (known (kindOf (a .kind))) (a .address) (a .count) _ (t .end-is (c .if6 .taken)) d
+    let e = c .before in
+    let s = start (e .before .before) in
+    let a = call s .args in
+    rw (s .after-line .ensures) (finished (a .place) (a .state) (kind s) (a .address) (a .count) _ (sorted s .end-is (c .if6 .taken)) (one-width e))
 
 limit-requires : tie.Need-limit-requires
 limit-requires c κs =
-    let s = c .before .before .before .before .before .before .before in
-    let t = sort-of (s .args .kind) (s .pre .0) in
-    let w = c .before .before .before .width-of .ensures .0 in
-    (omega (arith, t .low, w), omega (arith, t .high, w))
+    let w = c .before .before .before in
+    let t = sorted (start w) in
+    (omega (arith, t .low, width-at w), omega (arith, t .high, width-at w))
+
+-- S1 to S3 are left
+data-at : (c : tie.Else6) → let s = start (c .before .before .before) in kind s ≡ Data (width s)
+data-at c = let w = c .before .before .before in sorted (start w) .data-is (w .before .before .if1 .left) (w .before .if3 .left) (c .if6 .left)
 
 returns-7 : tie.Need-returns-7
 returns-7 c =
-    let at-if6 = c .before .before in
-    let at-if5 = at-if6 .before in
-    let at-differs = at-if5 .before in
-    let at-width-of = at-differs .before in
-    let at-if3 = at-width-of .before in
-    let at-if1 = at-if3 .before in
-    let s = at-if1 .before .before in
-    let a = s .args in
-    let t = sort-of (a .kind) (s .pre .0) in
-    let w : widthOr0 (kindOf (a .kind)) ≡ at-width-of .width-of .result = sym (at-width-of .width-of .ensures .0) in
-    let d : row9 (a .state .width) (widthOr0 (kindOf (a .kind))) ≡ false = rw w (sym (at-differs .differs .ensures) ∙ at-if5 .if5 .left) in
-    row-11 (a .place) (a .state) (known (kindOf (a .kind))) (a .address) (a .count) _
-    (t .data-is (at-if1 .if1 .left) (at-if3 .if3 .left) (at-if6 .if6 .left)) d (rw w (rw (c .before .limit .ensures) at (c .if7 .taken)))
+    let e = c .before .before in
+    let w = e .before .before .before in
+    let s = start w in
+    let a = call s .args in
+    row-11 (a .place) (a .state) (kind s) (a .address) (a .count) _ (data-at e) (one-width (e .before)) (rw (width-at w) (rw (c .before .limit .ensures) at (c .if7 .taken)))
 
 returns-8 : tie.Need-returns-8
 returns-8 c =
-    let at-if7 = c .before .before in
-    let at-limit = at-if7 .before in
-    let at-if6 = at-limit .before in
-    let at-if5 = at-if6 .before in
-    let at-differs = at-if5 .before in
-    let at-width-of = at-differs .before in
-    let at-if3 = at-width-of .before in
-    let at-if1 = at-if3 .before in
-    let s = at-if1 .before .before in
-    let a = s .args in
-    let t = sort-of (a .kind) (s .pre .0) in
-    let w : widthOr0 (kindOf (a .kind)) ≡ at-width-of .width-of .result = sym (at-width-of .width-of .ensures .0) in
-    let d : row9 (a .state .width) (widthOr0 (kindOf (a .kind))) ≡ false = rw w (sym (at-differs .differs .ensures) ∙ at-if5 .if5 .left) in
-    let k = t .data-is (at-if1 .if1 .left) (at-if3 .if3 .left) (at-if6 .if6 .left) in
-    rw (← w) (stored (a .place) (a .state) (known (kindOf (a .kind))) (a .address) (a .count) _ k d
-    (rw w (rw (at-limit .limit .ensures) at (at-if7 .if7 .left))))
+    let at-limit = c .before .before in
+    let e = at-limit .before in
+    let w = e .before .before .before in
+    let s = start w in
+    let a = call s .args in
+    rw (c .after-data .ensures, ← (width-at w)) (stored (a .place) (a .state) (kind s) (a .address) (a .count) _ (data-at e) (one-width (e .before))
+    (rw (width-at w) (rw (at-limit .limit .ensures) at (c .before .if7 .left))))
 
 pub judge-spec : {M : Type 1} → statement M
 judge-spec =
     tie.close
     (tie.spec
-    (λ c. search needs)
+    (λ c κs. search needs)
     returns
     returns-2
     returns-3
@@ -118,6 +121,5 @@ judge-spec =
     (λ c. search needs)
     limit-requires
     returns-7
-    (λ c. search needs)
-    (λ c. search needs)
+    (λ c κs. search needs)
     returns-8)
