@@ -9,7 +9,8 @@
  * not read. memory, marks and out must not overlap each other or any other buffer of the same call.
  *
  * A load or a write is refused by the first row of docs/FORMAT.md that applies; srec_reason below has the words of each.
- * What else a load finds, the header, the entry, the two counts, and of a refusal the record and the place, is not returned.
+ * What else a load finds, the header, the entry, the two counts, and of a refusal the record, the place and the right
+ * checksum, is not returned.
  *
  * Example: how many cells of a 32 KiB ROM at address 8000 hex the text on standard input fills.
  *

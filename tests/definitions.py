@@ -57,7 +57,8 @@ sameList (x ∷ xs) [] = false
 sameList (x ∷ xs) (y ∷ ys) = let r = sameList xs ys in eqb x y && r
 
 abbrev pub sameRefusal : Refusal → Refusal → Bool
-sameRefusal f g = eqb (f .reason) (g .reason) && eqb (f .ordinal) (g .ordinal) && eqb (f .place) (g .place)
+sameRefusal f g =
+    eqb (f .reason) (g .reason) && eqb (f .ordinal) (g .ordinal) && eqb (f .place) (g .place) && eqb (f .want) (g .want)
 
 abbrev pub sameHeader : Header → Header → Bool
 sameHeader h k = eqb (h .len) (k .len) && sameList (h .bytes) (k .bytes)
@@ -157,7 +158,7 @@ def entry(case):
 
 
 def refusal(case):
-    return record(reason=case["number"], ordinal=case["record"], place=case["place"])
+    return record(reason=case["number"], ordinal=case["record"], place=case["place"], want=case["want"])
 
 
 def load_case(case):

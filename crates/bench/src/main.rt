@@ -2,6 +2,7 @@
 use convert::Converted;
 use libc::STDIN_FILENO;
 use libc::STDOUT_FILENO;
+use window::Refusal;
 
 // The most characters of an input, the cells of the window, and the room for a canonical text.
 const MOST: usize = 32768;
@@ -10,14 +11,23 @@ const CELLS: usize = 8192;
 
 const ROOM: usize = 65536;
 
-// One line: why, in which record and at which place a text is refused.
-fn print_refusal(reason: u32, ordinal: usize, place: usize) {
+// The row of a checksum that differs.
+const MISMATCH: u32 = 7;
+
+// One line: why, in which record and at which place a text is refused; for a checksum that differs, also which would have been right.
+fn print_refusal(refusal: Refusal) {
     io::write_all(STDOUT_FILENO, b"refused ");
-    io::print_decimal(STDOUT_FILENO, reason as u64);
+    io::print_decimal(STDOUT_FILENO, refusal.reason as u64);
     io::write_all(STDOUT_FILENO, b" record ");
-    io::print_decimal(STDOUT_FILENO, ordinal as u64);
+    io::print_decimal(STDOUT_FILENO, refusal.ordinal as u64);
     io::write_all(STDOUT_FILENO, b" at ");
-    io::print_decimal(STDOUT_FILENO, place as u64);
+    io::print_decimal(STDOUT_FILENO, refusal.place as u64);
+    if refusal.reason == MISMATCH {
+        let mut digits = [0u8; 2];
+        hex::put_pair(&mut digits, 0, refusal.want);
+        io::write_all(STDOUT_FILENO, b" want ");
+        io::write_all(STDOUT_FILENO, &digits);
+    }
     io::write_all(STDOUT_FILENO, b"\n");
 }
 
@@ -35,7 +45,7 @@ fn main() {
     let converted = convert::convert(0, &text[..n], &mut memory, &mut marks, &mut out);
     match converted {
         Converted::Refused(refusal) => {
-            print_refusal(refusal.reason, refusal.ordinal, refusal.place);
+            print_refusal(refusal);
         }
         Converted::Text(length) => {
             if length <= ROOM {

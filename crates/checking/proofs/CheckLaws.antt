@@ -11,7 +11,7 @@ use lib.Seq.{length-take-le}
 use Rattle.window.specs.declared.Refusal.{Refusal}
 use Rattle.window.specs.declared.Entry.{Entry}
 use Rattle.window.specs.Images.{Image, blank, marksOf}
-use Rattle.window.specs.Plans.{refusal, Outcome, row12, row13, filled, placed}
+use Rattle.window.specs.Plans.{refusalWith, refusal, Outcome, row12, row13, filled, placed}
 use Rattle.window.specs.Plans.Outcome.{refused}
 use Rattle.window.specs.Marks.{claimRow, claimed}
 use Rattle.window.proofs.ClaimLaws.{claim-refused, claim-granted, claim-marks}
@@ -118,17 +118,17 @@ module _ {F : Format} {L : Limits} (laws : Lawful F L) (k : Counting F) {form : 
       said = step-says F k from (g .header) n chars step q
 
       -- a row of the format
-      pub told-refused : (marks′ : List ℕ) {reason place : ℕ} → step ≡ Refuse reason place → Told form whole (Refused (refusal reason (n .number + 1) place)) marks′
-      told-refused marks′ {reason} {place} e =
-          let y : Says from s (Refuse reason place) (F .step s chars) = subst (λ (z : Step). Says from s z (F .step s chars)) e said in
+      pub told-refused : (marks′ : List ℕ) {reason place want : ℕ} → step ≡ Refuse reason place want → Told form whole (Refused (refusalWith reason (n .number + 1) place want)) marks′
+      told-refused marks′ {reason} {place} {want} e =
+          let y : Says from s (Refuse reason place want) (F .step s chars) = subst (λ (z : Step). Says from s z (F .step s chars)) e said in
           let f = y .0 in
-          let p : Refuse reason place ≡ Refuse (f .reason) (from + f .offset) = y .2 in
-          let same : refusal reason (n .number + 1) place ≡ located (suc (n .number)) from f
-          = ap (λ (z : Step). refusalOf z) p ∙ ap (λ (i : ℕ). refusal (f .reason) i (from + f .offset)) (add-one (n .number)) in
+          let p : Refuse reason place want ≡ Refuse (f .reason) (from + f .offset) (f .want) = y .2 in
+          let same : refusalWith reason (n .number + 1) place want ≡ located (suc (n .number)) from f
+          = ap (λ (z : Step). refusalOf z) p ∙ ap (λ (i : ℕ). refusalWith (f .reason) i (from + f .offset) (f .want)) (add-one (n .number)) in
           tell form _ whole marks′ (ap refused same ∙ walk-refused F text base size (g .img) s at (g .walk) from to x f (y .1))
         where
           refusalOf : Step → Refusal
-          refusalOf (Refuse r p) = refusal r (n .number + 1) p
+          refusalOf (Refuse r p w) = refusalWith r (n .number + 1) p w
           refusalOf (Pass m) = refusal 0 0 0
           refusalOf (Put m a c) = refusal 0 0 0
           refusalOf (Finish m e) = refusal 0 0 0

@@ -6,11 +6,11 @@ use text::Step;
 use window::Entry;
 use window::Refusal;
 ghost use mathlib.Core.Path.{_≡_};
-ghost use Prim.Native.Nat.{_≤_};
+ghost use Prim.Native.Nat.{_+_, _^_, _≤_, _<_};
 ghost use lib.ListN.{length, drop, replicate};
 ghost use Rattle.hex.specs.Tables.{digitTable};
 ghost use Rattle.window.specs.Images.{blank};
-ghost use Rattle.window.specs.Plans.{refusal, placed};
+ghost use Rattle.window.specs.Plans.{refusalWith, refusal, placed};
 ghost use Rattle.marks.specs.Forms.{stored, marksLeft};
 ghost use Rattle.text.specs.Lines.{lines};
 ghost use Rattle.text.specs.Formats.{plan};
@@ -34,6 +34,14 @@ fn refused(reason: u32, ordinal: usize, place: usize) -> Checked
     ensures { λ r. ⌜ r ≡ Refused (refusal reason ordinal place) ⌝ }
 {
     Checked::Refused(window::refuse(reason, ordinal, place))
+}
+
+// The refusal of the record behind a state, at a place, with the checksum that would have been right (0 but for row 7).
+fn unfit(state: State, reason: u32, place: usize, want: u8) -> Checked
+    requires { ⌜ state .number + 1 < 2 ^ 64 ⌝ }
+    ensures { λ r. ⌜ r ≡ Refused (refusalWith reason (state .number + 1) place want) ⌝ }
+{
+    Checked::Refused(window::refuse_with(reason, state.number + 1, place, want))
 }
 
 // Row 2, or the end, behind a terminator whose last character stands before `at`.
@@ -74,7 +82,7 @@ fn walk(
         };
         let step = srec_read::step_of(table, state, &text[from..to], from);
         match step {
-            Step::Refuse(reason, place) => return refused(reason, state.number + 1, place),
+            Step::Refuse(reason, place, want) => return unfit(state, reason, place, want),
             Step::Finish(next, entry) => return ended(text, to, next, entry),
             Step::Pass(next) => {
                 state = next;

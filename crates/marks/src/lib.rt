@@ -1,5 +1,5 @@
-// A window's marks: cleared, claimed, and walked over. Every function is told how many cells the window has and in which form
-// their marks are stored, and promises what it does by the flags that the marks show, one number a cell.
+// A window's marks: cleared, claimed, and walked over. A function that reads or claims them is told how many cells the window has and
+// in which form their marks are stored, and promises what it does by the flags that the marks show, one number a cell.
 ghost use mathlib.Core.Path.{_≡_};
 ghost use Prim.Native.Nat.{_+_, _≤_, min};
 ghost use lib.ListN.{length, take, drop, replicate};

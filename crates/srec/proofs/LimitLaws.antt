@@ -74,7 +74,7 @@ read-ok cs =
     let k : Kind = known (kindOf (getD cs 1 0)) in
     let bs : List ℕ = bytes (drop 2 cs) in
     either (row3 cs) (no 2 0) (either (row4 cs) (no 3 0) (either (row5 cs) (no 4 (2 + firstBad (drop 2 cs)))
-    (either (row6 k (length cs) (getD bs 0 0)) (no 5 0) (either (row7 bs) (no 6 0)
+    (either (row6 k (length cs) (getD bs 0 0)) (no 5 0) (either (row7 bs) (record { got = omega arith })
     (record { got = good-ok k bs (kindOf-wide (getD cs 1 0) .got) (bytes-small (drop 2 cs)) })))))
   where
     no : (reason offset : ℕ) → Of ReadOk (fault (suc reason) offset)

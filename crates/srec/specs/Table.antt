@@ -8,7 +8,7 @@ use Rattle.window.specs.declared.Entry.the-variants.{Absent, Present}
 use Rattle.window.specs.Windows.{Window, windowOf}
 use Rattle.window.specs.Cells.{Cell}
 use Rattle.window.specs.Plans.{refusal}
-use Rattle.text.specs.Cases.{Result, Case, cell, block, row}
+use Rattle.text.specs.Cases.{Result, Case, cell, block, row, row7With}
 use Rattle.text.specs.Cases.Result.{passes}
 use Rattle.text.specs.Cases.Case.{writes, declines, loads, rejects}
 
@@ -26,7 +26,7 @@ starred =
     ∷ loads "S9030000FC" [] (holding 0 [])
     ∷ loads "S9030000fc" [] (holding 0 [])
     ∷ loads "s9030000FC" [] (row 4 1 0)
-    ∷ loads "S9030000FD" [] (row 7 1 0)
+    ∷ loads "S9030000FD" [] (row7With 1 0 0xFC)
     ∷ loads "S104FFFF11EC\nS9030000FC\n" (0xFFFF ∷ []) (holding 1 (cell 0xFFFF 0x11 ∷ []))
     ∷ loads "S105FFFF1122C9\n" [] (row 11 1 0)
     ∷ loads "S1030000FC\nS9030000FC\n" [] (holding 1 [])
@@ -67,6 +67,8 @@ refusing =
     ∷ loads "S904000000FB" [] (row 6 1 0)
     ∷ loads "S504000000FB" [] (row 6 1 0)
     ∷ loads "S9030000FD00" [] (row 6 1 0)
+    ∷ loads "S5030001FA\n" [] (row7With 1 0 0xFB)
+    ∷ loads "S1040000AA51\nS1040001FAFF\n" (0 ∷ []) (row7With 2 13 0)
     ∷ loads "S1030000FC\nS0030000FC\n" [] (row 8 2 11)
     ∷ loads "S1040000AA51\nS205000001BB3E\n" (0 ∷ []) (row 9 2 13)
     ∷ loads "S1030000FC\nS206FFFFFF1122C9\n" [] (row 9 2 11)

@@ -131,7 +131,7 @@ pub got : (chars : List ℕ) (place kind a n : ℕ) → Good kind a n ≡ asReco
 got chars place kind a n q = go (read chars) refl
   where
     go : (r : Read) → read chars ≡ r → Got chars kind a n
-    go (bad f) e = absurd (let p : Good kind a n ≡ Bad (f .reason) (place + f .offset) = q ∙ ap (asRecord place) e in let z : _≡_ {A = ℕ} 0 1 = cc in omega arith)
+    go (bad f) e = absurd (let p : Good kind a n ≡ Bad (f .reason) (place + f .offset) (f .want) = q ∙ ap (asRecord place) e in let z : _≡_ {A = ℕ} 0 1 = cc in omega arith)
     go (good k b ds) e =
         let p : Good kind a n ≡ Good (typeOf k) b (length ds) = q ∙ ap (asRecord place) e in
         let kind-is : kind ≡ typeOf k = cc in

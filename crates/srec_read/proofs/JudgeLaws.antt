@@ -79,7 +79,7 @@ module _ (place : ℕ) (n : State) (k : Kind) (a count : ℕ) where
   next = numbers (more (stateWith [] n) [])
 
   -- an S0 that is not the first record
-  pub row-8 : k ≡ S0 → (n .number ≡ 0 → ⊥) → Refuse 8 place ≡ taken
+  pub row-8 : k ≡ S0 → (n .number ≡ 0 → ⊥) → Refuse 8 place 0 ≡ taken
   unfolding judge row8
   row-8 e z = rw (e, ne-eqb (n .number) 0 z, add-zero)
 
@@ -89,7 +89,7 @@ module _ (place : ℕ) (n : State) (k : Kind) (a count : ℕ) where
   passed-s0 e z = rw (e, eq-eqb (n .number) 0 z)
 
   -- an S5 with another number
-  pub row-10 : k ≡ S5 → (a ≡ n .records → ⊥) → Refuse 10 place ≡ taken
+  pub row-10 : k ≡ S5 → (a ≡ n .records → ⊥) → Refuse 10 place 0 ≡ taken
   unfolding judge row10
   row-10 e z = rw (e, ne-eqb a (n .records) z, add-zero)
 
@@ -107,7 +107,7 @@ module _ (place : ℕ) (n : State) (k : Kind) (a count : ℕ) where
   other c t z f = by-test (ltb 53 c) (λ e. inr (t .end-is (ltb-true 53 c e))) (λ e. inl (t .data-is z f (ltb-false 53 c e)))
 
   -- another width than the first data record
-  pub row-9 : (w : ℕ) → Other w → row9 (n .width) w ≡ true → Refuse 9 place ≡ taken
+  pub row-9 : (w : ℕ) → Other w → row9 (n .width) w ≡ true → Refuse 9 place 0 ≡ taken
   unfolding judge row9
   row-9 w (inl e) z = rw (e, z, add-zero)
   row-9 w (inr e) z = rw (e, z, add-zero)
@@ -118,7 +118,7 @@ module _ (place : ℕ) (n : State) (k : Kind) (a count : ℕ) where
   finished w e z = rw (e, z)
 
   -- the data passes the end of the width
-  pub row-11 : (w : ℕ) → k ≡ Data w → row9 (n .width) w ≡ false → 2 ^ (8 * w) < a + count → Refuse 11 place ≡ taken
+  pub row-11 : (w : ℕ) → k ≡ Data w → row9 (n .width) w ≡ false → 2 ^ (8 * w) < a + count → Refuse 11 place 0 ≡ taken
   unfolding judge row9 row11
   row-11 w e z l = rw (e, z, length-replicate, lt-ltb (2 ^ (8 * w)) (a + count) l, add-zero)
 
@@ -154,10 +154,10 @@ module _ (place : ℕ) (n : State) (chars : List ℕ) where
       ∙ judge-numbers place (stateWith [] n) (g .k) a (g .ds) ∙ ap (λ (x : Read). asStep place (stateWith [] n) (judged (stateWith [] n) x)) (sym (g .is))
 
   -- a record that cannot be read is refused where its row says
-  pub step-bad : (reason at : ℕ) → Bad reason at ≡ asRecord place (read chars) → Refuse reason at ≡ whole
-  step-bad reason at q = go (read chars) q
+  pub step-bad : (reason at want : ℕ) → Bad reason at want ≡ asRecord place (read chars) → Refuse reason at want ≡ whole
+  step-bad reason at want q = go (read chars) q
     where
-      go : (r : Read) → Bad reason at ≡ asRecord place r → Refuse reason at ≡ asStep place (stateWith [] n) (judged (stateWith [] n) r)
+      go : (r : Read) → Bad reason at want ≡ asRecord place r → Refuse reason at want ≡ asStep place (stateWith [] n) (judged (stateWith [] n) r)
       go (good k a ds) e = absurd (let z : _≡_ {A = ℕ} 0 1 = cc in omega arith)
       go (bad f) e = cc
 

@@ -14,16 +14,16 @@ use Rattle.hex.specs.Digits.{byteOf, bytes, firstBad}
 use Rattle.hex.specs.Numbers.{number, sum}
 use Rattle.hex.proofs.PairLaws.{byte-at, take-bytes}
 use Rattle.srec.specs.Kinds.{Kind, kindOf, known}
-use Rattle.srec.specs.Reading.{Read, fault, checksum, row3, row4, row5, row6, row7, addressIn, dataIn, read}
-use Rattle.srec.specs.Reading.Read.{good}
+use Rattle.srec.specs.Reading.{Read, fault, mismatch, right, checksum, row3, row4, row5, row6, row7, addressIn, dataIn, read}
+use Rattle.srec.specs.Reading.Read.{good, bad}
 use Rattle.srec_read.specs.declared.Record.the-variants.{Good, Bad}
 use Rattle.srec_read.specs.Records.{asRecord}
 use Rattle.srec_read.proofs.KindLaws.{Known}
 use Rattle.srec_read.proofs.FieldLaws.{bs, count, address-at, length-data}
 
 -- a refusal at the record's first character
-pub at-place : (place : ℕ) {reason : ℕ} {r : Read} → fault reason 0 ≡ r → Bad reason place ≡ asRecord place r
-at-place place {reason} e = ap (Bad reason) (sym (add-zero place)) ∙ ap (asRecord place) e
+pub at-place : (place : ℕ) {reason : ℕ} {r : Read} → fault reason 0 ≡ r → Bad reason place 0 ≡ asRecord place r
+at-place place {reason} e = ap (λ (p : ℕ). Bad reason p 0) (sym (add-zero place)) ∙ ap (asRecord place) e
 
 module _ (chars : List ℕ) where
   -- the record is too long
@@ -60,7 +60,7 @@ module _ (chars : List ℕ) where
 
     -- rows 5 to 7 are left
     left : read chars ≡ cond (row5 chars) (fault 5 (2 + firstBad (drop 2 chars)))
-        (cond (row6 k (length chars) (count chars)) (fault 6 0) (cond (row7 (bs chars)) (fault 7 0) (good k (addressIn k (bs chars)) (dataIn k (bs chars)))))
+        (cond (row6 k (length chars) (count chars)) (fault 6 0) (cond (row7 (bs chars)) (mismatch (bs chars)) (good k (addressIn k (bs chars)) (dataIn k (bs chars)))))
     unfolding read row3 row4
     left = rw (le-ltb 514 (length chars) (h .short), le-ltb (length chars) 4 (h .four), eq-eqb (getD chars 0 0) 83 (h .letter), h .type-known .is)
 
@@ -97,8 +97,8 @@ module _ (chars : List ℕ) (w n : ℕ) (z : Sized chars w n) where
   given = byteOf (getD chars (2 + 2 * n) 0) (getD chars (2 + 2 * n + 1) 0)
 
   -- the checksum that it should have
-  abbrev pub right : ℕ
-  right = 255 - sum (bytes (take (2 * n) (drop 2 chars))) % 256
+  abbrev pub wanted : ℕ
+  wanted = 255 - sum (bytes (take (2 * n) (drop 2 chars))) % 256
 
   -- the bytes that the checksum covers, by their characters
   sum-at : take (count chars) all ≡ bytes (take (2 * n) (drop 2 chars))
@@ -111,8 +111,8 @@ module _ (chars : List ℕ) (w n : ℕ) (z : Sized chars w n) where
       ∙ rw (getD-drop, getD-drop, add-assoc)
 
   -- row 7 alone is left
-  left-seven : read chars ≡ cond (not (eqb given right)) (fault 7 0) (good v (addressIn v all) (dataIn v all))
-  unfolding row5 row7 checksum
+  left-seven : read chars ≡ cond (not (eqb given wanted)) (bad (record { reason = 7; offset = 0; want = wanted })) (good v (addressIn v all) (dataIn v all))
+  unfolding row5 row7 right checksum
   left-seven =
       let six : row6 (known (kindOf (getD chars 1 0))) (length chars) (count chars) ≡ false
       = ap (row6 (known (kindOf (getD chars 1 0))) (length chars)) (sym (z .count-is)) ∙ z .six in
@@ -120,14 +120,16 @@ module _ (chars : List ℕ) (w n : ℕ) (z : Sized chars w n) where
       ∙ rw (le-ltb (firstBad (drop 2 chars)) (length (drop 2 chars)) (z .digits), six, check-at, sum-at, z .head .type-known .is)
 
   -- they differ
-  pub row-7 : (given ≡ right → ⊥) → fault 7 0 ≡ read chars
-  row-7 e = sym (left-seven ∙ rw (ne-eqb given right e))
+  pub row-7 : (given ≡ wanted → ⊥) → (place : ℕ) → Bad 7 place wanted ≡ asRecord place (read chars)
+  row-7 e place =
+      let r : read chars ≡ bad (record { reason = 7; offset = 0; want = wanted }) = left-seven ∙ rw (ne-eqb given wanted e) in
+      ap (λ (p : ℕ). Bad 7 p wanted) (sym (add-zero place)) ∙ ap (asRecord place) (sym r)
 
   -- they agree: no row refuses the record
-  pub good-record : given ≡ right → (place : ℕ)
+  pub good-record : given ≡ wanted → (place : ℕ)
       → Good (getD chars 1 0) (number (bytes (take (2 * w) (drop 4 chars)))) (n - (w + 1)) ≡ asRecord place (read chars)
   good-record e place =
-      let r : read chars ≡ good v (addressIn v all) (dataIn v all) = left-seven ∙ rw (eq-eqb given right e) in
+      let r : read chars ≡ good v (addressIn v all) (dataIn v all) = left-seven ∙ rw (eq-eqb given wanted e) in
       let a : addressIn v all ≡ number (bytes (take (2 * w) (drop 4 chars)))
       = address-at chars v ∙ ap (λ (j : ℕ). number (bytes (take (2 * j) (drop 4 chars)))) (z .head .type-known .width-is) in
       let d : length (dataIn v all) ≡ n - (w + 1)

@@ -4,28 +4,27 @@ use text::Step;
 use window::Entry;
 ghost use mathlib.Core.Path.{_≡_};
 ghost use mathlib.Core.Bool.{true, not};
-ghost use Prim.Native.Nat.{ℕ, _+_, _*_, _^_, _≤_, _<_};
+ghost use Prim.Native.Nat.{_+_, _*_, _^_, _≤_, _<_};
 ghost use mathlib.Core.List.{[]};
 ghost use lib.ListN.{length, replicate};
 ghost use Rattle.hex.specs.Tables.{digitTable};
-ghost use Rattle.text.specs.declared.Step.the-variants.{Refuse};
 ghost use Rattle.text.specs.Steps.{stateWith, asStep};
 ghost use Rattle.srec.specs.Kinds.{kindOf, isKnown, known};
 ghost use Rattle.srec.specs.Reading.{row6, read};
 ghost use Rattle.srec.specs.Judging.{row9, judge as judgeScan};
 ghost use Rattle.srec.specs.Formats.{srec};
-ghost use Rattle.srec_read.specs.declared.Record.the-variants.{Bad};
-ghost use Rattle.srec_read.specs.Records.{widthOr0, asRecord};
+ghost use Rattle.srec_read.specs.Records.{widthOr0, asRecord, refusing};
 
 // A record's most and least characters: S, type, and the pairs of a count of 255, or of a count alone.
 const MOST_CHARS: usize = 514;
 
 const LEAST_CHARS: usize = 4;
 
-// What a record says: its type character, address and number of data bytes; or the row that refuses it, and where.
+// What a record says: its type character, address and number of data bytes; or the row that refuses it, where, and for row 7 the
+// checksum that would have been right (0 otherwise).
 pub enum Record {
     Good(u8, u32, usize),
-    Bad(u32, usize),
+    Bad(u32, usize, u8),
 }
 
 // The address bytes of a type; 0 for a type that is not in the table.
@@ -70,35 +69,37 @@ pub fn read_record(table: &[u8; 256], chars: &[u8], place: usize) -> Record
 {
     let n = chars.len();
     if n > MOST_CHARS {
-        return Record::Bad(3, place);
+        return Record::Bad(3, place, 0);
     }
     if n < LEAST_CHARS {
-        return Record::Bad(4, place);
+        return Record::Bad(4, place, 0);
     }
     if chars[0] != b'S' {
-        return Record::Bad(4, place);
+        return Record::Bad(4, place, 0);
     }
     let kind = chars[1];
     let width = width_of(kind);
     if width == 0 {
-        return Record::Bad(4, place);
+        return Record::Bad(4, place, 0);
     }
     let wrong = hex::first_bad(table, &chars[2..]);
     if wrong < n - 2 {
-        return Record::Bad(5, place + (2 + wrong));
+        return Record::Bad(5, place + (2 + wrong), 0);
     }
     let count = hex::byte_of(table, chars[2], chars[3]) as usize;
     if !fits(kind, width, n, count) {
-        return Record::Bad(6, place);
+        return Record::Bad(6, place, 0);
     }
     let end = 2 + 2 * count;
     let right = 255 - (hex::sum_pairs(table, &chars[2..end]) % 256) as u8;
-    if hex::byte_of(table, chars[end], chars[end + 1]) != right {
-        return Record::Bad(7, place);
+    let given = hex::byte_of(table, chars[end], chars[end + 1]);
+    if given != right {
+        return Record::Bad(7, place, right);
     }
     let data = 4 + 2 * width;
     let address = hex::number_of(table, &chars[4..data]);
-    Record::Good(kind, address, count - (width + 1))
+    let bytes = count - (width + 1);
+    Record::Good(kind, address, bytes)
 }
 
 // Row 9: is there a first data record, of another width?
@@ -124,38 +125,38 @@ fn judge(state: State, kind: u8, address: u32, count: usize, place: usize) -> St
     let next = text::after_line(state);
     if kind == b'0' {
         if state.number != 0 {
-            return Step::Refuse(8, place);
+            return Step::Refuse(8, place, 0);
         }
         return Step::Pass(next);
     }
     if kind == b'5' {
         if address as usize != state.records {
-            return Step::Refuse(10, place);
+            return Step::Refuse(10, place, 0);
         }
         return Step::Pass(next);
     }
     let width = width_of(kind);
     if differs(state.width, width) {
-        return Step::Refuse(9, place);
+        return Step::Refuse(9, place, 0);
     }
     // S7 to S9 end the text; S1 to S3 are left
     if kind > b'5' {
         return Step::Finish(next, Entry::Present(address));
     }
     if address as usize + count > limit(width) {
-        return Step::Refuse(11, place);
+        return Step::Refuse(11, place, 0);
     }
     let more = text::after_data(state, width, count);
     Step::Put(more, address, count)
 }
 
-// The refusal of a record that cannot be read.
+// The refusal of a record that cannot be read; one that can be is never handed in.
 fn unread(answer: Record) -> Step
-    ensures { λ r. ⌜ ((reason place : ℕ) → answer ≡ Bad reason place → r ≡ Refuse reason place) ⌝ }
+    ensures { λ r. ⌜ r ≡ refusing answer ⌝ }
 {
     match answer {
-        Record::Bad(reason, place) => Step::Refuse(reason, place),
-        Record::Good(_, _, _) => Step::Refuse(0, 0),
+        Record::Bad(reason, place, want) => Step::Refuse(reason, place, want),
+        Record::Good(_, _, _) => Step::Refuse(0, 0, 0),
     }
 }
 

@@ -44,10 +44,10 @@ no-header : (chars : List ℕ) → headerIn (carried (read chars)) [] ≡ [] →
 no-header chars e = rw e refl
 
 -- a record that cannot be read has no header
-pub header-bad : (chars : List ℕ) (place reason at : ℕ) → Bad reason at ≡ asRecord place (read chars) → headerOf [] ≡ headerOf (headerIn (carried (read chars)) [])
-header-bad chars place reason at q = no-header chars (go (read chars) q)
+pub header-bad : (chars : List ℕ) (place reason at want : ℕ) → Bad reason at want ≡ asRecord place (read chars) → headerOf [] ≡ headerOf (headerIn (carried (read chars)) [])
+header-bad chars place reason at want q = no-header chars (go (read chars) q)
   where
-    go : (r : Read) → Bad reason at ≡ asRecord place r → headerIn (carried r) [] ≡ []
+    go : (r : Read) → Bad reason at want ≡ asRecord place r → headerIn (carried r) [] ≡ []
     go (good k a ds) e = absurd (let z : _≡_ {A = ℕ} 0 1 = cc in omega arith)
     go (bad f) e = refl
 

@@ -65,9 +65,9 @@ sameCells [] (y ∷ ys) = false
 sameCells (x ∷ xs) [] = false
 sameCells (x ∷ xs) (y ∷ ys) = eqb (x .addr) (y .addr) && (eqb (x .byte) (y .byte) && sameCells xs ys)
 
--- two refusals have the same row, record number and place
+-- two refusals have the same row, record number, place and right byte
 abbrev pub sameRefusal : Refusal → Refusal → Bool
-sameRefusal f g = eqb (f .reason) (g .reason) && (eqb (f .ordinal) (g .ordinal) && eqb (f .place) (g .place))
+sameRefusal f g = eqb (f .reason) (g .reason) && (eqb (f .ordinal) (g .ordinal) && (eqb (f .place) (g .place) && eqb (f .want) (g .want)))
 
 -- two entries are both absent, or have the same address
 abbrev pub sameEntry : Entry → Entry → Bool

@@ -44,10 +44,16 @@ same-cell-list (x ∷ xs) (y ∷ ys) t =
 -- refusals that pass the test are equal
 pub same-refusal : (f g : Refusal) → T (sameRefusal f g) → f ≡ g
 same-refusal f g t =
-    let k : T (eqb (f .reason) (g .reason)) × T (eqb (f .ordinal) (g .ordinal) && eqb (f .place) (g .place))
-    = and-yes (eqb (f .reason) (g .reason)) (eqb (f .ordinal) (g .ordinal) && eqb (f .place) (g .place)) t in
-    let l : T (eqb (f .ordinal) (g .ordinal)) × T (eqb (f .place) (g .place)) = and-yes (eqb (f .ordinal) (g .ordinal)) (eqb (f .place) (g .place)) (k .1) in
-    λ i. record { reason = eqb→eq (f .reason) (g .reason) (k .0) i; ordinal = eqb→eq (f .ordinal) (g .ordinal) (l .0) i; place = eqb→eq (f .place) (g .place) (l .1) i }
+    let place : Bool = eqb (f .place) (g .place) && eqb (f .want) (g .want) in
+    let k : T (eqb (f .reason) (g .reason)) × T (eqb (f .ordinal) (g .ordinal) && place) = and-yes (eqb (f .reason) (g .reason)) (eqb (f .ordinal) (g .ordinal) && place) t in
+    let l : T (eqb (f .ordinal) (g .ordinal)) × T place = and-yes (eqb (f .ordinal) (g .ordinal)) place (k .1) in
+    let m : T (eqb (f .place) (g .place)) × T (eqb (f .want) (g .want)) = and-yes (eqb (f .place) (g .place)) (eqb (f .want) (g .want)) (l .1) in
+    λ i. record {
+      reason = eqb→eq (f .reason) (g .reason) (k .0) i;
+      ordinal = eqb→eq (f .ordinal) (g .ordinal) (l .0) i;
+      place = eqb→eq (f .place) (g .place) (m .0) i;
+      want = eqb→eq (f .want) (g .want) (m .1) i;
+    }
 
 -- entries that pass the test are equal
 same-entry : (x y : Entry) → T (sameEntry x y) → x ≡ y

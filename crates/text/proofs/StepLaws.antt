@@ -19,7 +19,7 @@ pub record Counting (F : Format) : Type 0 where
 
 -- what a step in numbers says of the definitions' step; the state of its numbers is the walk's next one
 abbrev pub Says : ℕ → ScanState → Step → ScanStep → Type 0
-Says place s (Refuse reason at) x = (f : Fault) × (x ≡ refuse f) × (Refuse reason at ≡ Refuse (f .reason) (place + f .offset))
+Says place s (Refuse reason at want) x = (f : Fault) × (x ≡ refuse f) × (Refuse reason at want ≡ Refuse (f .reason) (place + f .offset) (f .want))
 Says place s (Pass n) x = ((x ≡ skip) × (stateWith (s .header) n ≡ more s (s .header))) ⊎ ((h : List ℕ) × (x ≡ title h) × (stateWith h n ≡ more s h))
 Says place s (Put n a c) x = (w : ℕ) × (ds : List ℕ) × (x ≡ put w a ds) × (c ≡ length ds) × (stateWith (s .header) n ≡ moreData s w (length ds))
 Says place s (Finish n e) x = (x ≡ finish e) × (stateWith (s .header) n ≡ more s (s .header))

@@ -11,7 +11,7 @@ use Rattle.window.specs.declared.Entry.{Entry}
 use Rattle.window.specs.Windows.{Window, Allowed, Holds, row16}
 use Rattle.window.specs.Images.{Image, marksOf}
 use Rattle.window.specs.Cells.{Cell, cells, shown}
-use Rattle.window.specs.Plans.{refusal, Outcome}
+use Rattle.window.specs.Plans.{refusalWith, refusal, Outcome}
 use Rattle.window.specs.Plans.Outcome.{refused, accepted}
 use Rattle.text.specs.Formats.{Format, plan}
 use Rattle.text.specs.Load.{load}
@@ -78,3 +78,7 @@ block a (suc n) b = cell a b ∷ block (suc a) n b
 -- the row, the record, the place
 abbrev pub row : ℕ → ℕ → ℕ → Result
 row n record-number place = fails (refusal n record-number place)
+
+-- row 7 with the record, the place, and the byte that would have been right
+abbrev pub row7With : ℕ → ℕ → ℕ → Result
+row7With record-number place want = fails (refusalWith 7 record-number place want)

@@ -20,13 +20,13 @@ pub record Row : Type 0 where
 pub record Format : Type 0 where
   -- the characters between lines
   pub gap : ℕ → Bool
-  -- what a line does behind the lines read so far (rows 3 to 11)
+  -- what a line does behind the lines read so far: its own rows, or what it carries
   pub step : State → List ℕ → Step
   -- what a line carries, whatever stands before it
   pub part : List ℕ → Step
   -- the canonical text of cells by rising address, a header and an entry
   pub canonical : List Cell → List ℕ → Entry → List ℕ
-  -- the writer's rows between 1 and 17, in their order
+  -- the writer's rows behind row 1 and before row 17, in their order
   pub rows : Window → List ℕ → Entry → List Row
 
 -- what a text asks of a window

@@ -19,7 +19,7 @@ load W p = cond (row1 W) (refused (refusal 1 0 0)) (placed (W .base) (blank (len
 abbrev pub headerOf : List ℕ → Header
 headerOf h = record { len = length h; bytes = h ++ replicate (252 - length h) 0 }
 
--- 01 leaves the refusal of an accepted load free; here its numbers are 0
+-- 01 leaves the refusal of an accepted load free; here its three numbers are 0. Its byte is 0 by Req 01
 abbrev pub loadAnswer : Outcome → Loaded
 loadAnswer (refused f) = record { refusal = f; header = headerOf []; entry = Absent; records = 0; cells = 0 }
 loadAnswer (accepted s img) =

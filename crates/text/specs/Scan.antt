@@ -5,14 +5,16 @@ use mathlib.Core.List.{List, [], _∷_}
 use lib.ListN.{length}
 use Rattle.window.specs.declared.Refusal.{Refusal}
 use Rattle.window.specs.declared.Entry.{Entry}
-use Rattle.window.specs.Plans.{Summary, refusal, Plan}
+use Rattle.window.specs.Plans.{Summary, refusalWith, refusal, Plan}
 use Rattle.window.specs.Plans.Plan.{store, stop, done}
 use Rattle.text.specs.Lines.{Line}
 
--- why a line is refused, and where: the row, and the index of a character of the line
+-- why a line is refused, and where: the row, the index of a character of the line, and the checksum byte that would have been right
+-- (0 where the row is not about it)
 pub record Fault : Type 0 where
   pub reason : ℕ
   pub offset : ℕ
+  pub want : ℕ
 
 -- what one line does: it is refused, it loads nothing, it has the header (`title`), it has data for an address (address bytes,
 -- address, data bytes), or it ends the text
@@ -23,9 +25,9 @@ pub data Step : Type 0 where
   put : ℕ → ℕ → List ℕ → Step
   finish : Entry → Step
 
--- refused by this row, at the line's first character
+-- refused by this row, at the line's first character, with byte 0
 abbrev pub by-row : ℕ → Step
-by-row reason = refuse (record { reason = reason; offset = 0 })
+by-row reason = refuse (record { reason = reason; offset = 0; want = 0 })
 
 -- what was read so far: how many lines, the header, how many data lines, their data bytes, and the address bytes of the
 -- last of them (0: none yet; where all have one width, also of the first)
@@ -59,7 +61,7 @@ ended s e (l ∷ ls) = stop (refusal 2 (suc (suc (s .number))) (l .place))
 
 -- the fault of line n at place `at` as a refusal
 abbrev pub located : ℕ → ℕ → Fault → Refusal
-located n at f = refusal (f .reason) n (at + f .offset)
+located n at f = refusalWith (f .reason) n (at + f .offset) (f .want)
 
 -- what a step of the next line, at place `at`, leads to; `go` goes on behind it, `last` behind the line that ends the text
 abbrev pub onward : State → ℕ → (State → Plan) → (Entry → Plan) → Step → Plan

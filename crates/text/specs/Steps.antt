@@ -18,7 +18,7 @@ stateWith h n = record { number = n .number; header = h; records = n .records; c
 
 -- what a step of the line at a place comes to in numbers, behind a state
 abbrev pub asStep : ℕ → ScanState → ScanStep → Step
-asStep place s (refuse f) = Refuse (f .reason) (place + f .offset)
+asStep place s (refuse f) = Refuse (f .reason) (place + f .offset) (f .want)
 asStep place s skip = Pass (numbers (more s (s .header)))
 asStep place s (title h) = Pass (numbers (more s h))
 asStep place s (put w a ds) = Put (numbers (moreData s w (length ds))) a (length ds)

@@ -41,7 +41,7 @@ write F W header entry room =
     cond (row1 W) (declined (refusal 1 0 0))
     (tried (F .rows W header entry) (cond (row17 text room) (declined (refusal 17 0 (length text))) (wrote text)))
 
--- 01 leaves free the length of a refused write, and the refusal of an accepted one; here they are 0
+-- 01 and Req 01 leave free the length and the byte of a refused write, and the refusal of an accepted one; here they are 0
 abbrev pub writeAnswer : WriteOutcome → Written
 writeAnswer (declined f) = record { refusal = f; length = 0 }
 writeAnswer (wrote text) = record { refusal = refusal 0 0 0; length = length text }

@@ -21,10 +21,11 @@ pub struct State {
     pub width: usize,
 }
 
-// What one line does: a row refuses it at a place of the text; or it is passed; or it has so many data bytes for an address; or it
-// ends the text, with an entry or none. Those that do not refuse it have the state behind the line.
+// What one line does: a row refuses it, at a place of the text and with the checksum that would have been right (0 for none); or it
+// is passed; or it has so many data bytes for an address; or it ends the text, with an entry or none. Those that do not refuse it
+// have the state behind the line.
 pub enum Step {
-    Refuse(u32, usize),
+    Refuse(u32, usize, u8),
     Pass(State),
     Put(State, u32, usize),
     Finish(State, Entry),

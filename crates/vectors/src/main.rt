@@ -58,12 +58,17 @@ fn print_header(len: usize, bytes: &[u8; 252]) {
     }
 }
 
+// Every number of a refusal, the byte that would have been right in two capital digits.
 fn print_refusal(refusal: Refusal) {
     io::print_decimal(STDOUT_FILENO, refusal.reason as u64);
     io::write_all(STDOUT_FILENO, b" record ");
     io::print_decimal(STDOUT_FILENO, refusal.ordinal as u64);
     io::write_all(STDOUT_FILENO, b" at ");
     io::print_decimal(STDOUT_FILENO, refusal.place as u64);
+    let mut digits = [0u8; 2];
+    hex::put_pair(&mut digits, 0, refusal.want);
+    io::write_all(STDOUT_FILENO, b" want ");
+    io::write_all(STDOUT_FILENO, &digits);
 }
 
 // The address of an entry, or that there is none.

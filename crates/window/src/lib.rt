@@ -2,7 +2,7 @@
 ghost use mathlib.Core.Path.{_≡_};
 ghost use mathlib.Core.Bool.{not};
 ghost use Rattle.window.specs.Windows.{windowOf, row1};
-ghost use Rattle.window.specs.Plans.{refusal};
+ghost use Rattle.window.specs.Plans.{refusalWith, refusal};
 
 // Behind the last address.
 const TOP: usize = 1 << 32;
@@ -10,11 +10,13 @@ const TOP: usize = 1 << 32;
 // Why and where something is refused. The reason is the row's number in docs/FORMAT.md, 0 for none.
 // A load's ordinal is the number of a record, from 1; 0 for row 1, and for row 14 how many records were read. Its
 // place is an index into the text. A write's ordinal is 0, and its place the index of a mark (row 16), the length
-// needed (row 17), or 0.
+// needed (row 17), or 0. For row 7 `want` is the checksum that would have been right, which may be 0; for every other reason, and
+// for none, it is 0.
 pub struct Refusal {
     pub reason: u32,
     pub ordinal: usize,
     pub place: usize,
+    pub want: u8,
 }
 
 // The address where a program starts, if an image has one.
@@ -30,7 +32,7 @@ pub struct Header {
 }
 
 // The answer of a load: `records` counts the data records, `cells` their data bytes. An accepted load has a refusal of
-// zeros; a refused one has an empty header, no entry and zeros.
+// zeros; a refused one has an empty header, no entry, and both counts 0.
 pub struct Loaded {
     pub refusal: Refusal,
     pub header: Header,
@@ -45,15 +47,23 @@ pub struct Written {
     pub length: usize,
 }
 
-// A refusal of these three numbers.
-pub fn refuse(reason: u32, ordinal: usize, place: usize) -> Refusal
-    ensures { λ r. ⌜ r ≡ refusal reason ordinal place ⌝ }
+// A refusal of these four numbers.
+pub fn refuse_with(reason: u32, ordinal: usize, place: usize, want: u8) -> Refusal
+    ensures { λ r. ⌜ r ≡ refusalWith reason ordinal place want ⌝ }
 {
     Refusal {
         reason,
         ordinal,
         place,
+        want,
     }
+}
+
+// A refusal of three numbers, without a byte that would have been right.
+pub fn refuse(reason: u32, ordinal: usize, place: usize) -> Refusal
+    ensures { λ r. ⌜ r ≡ refusal reason ordinal place ⌝ }
+{
+    refuse_with(reason, ordinal, place, 0)
 }
 
 // Row 1 does not apply: there is a mark for each memory byte, and no cell behind the last address.

@@ -1,5 +1,6 @@
 //! Whole answers, by the program `vectors` and by the second reading: record
-//! number, place, header, entry and counts, which the C face does not give.
+//! number, place, right checksum, header, entry and counts, which the C face
+//! does not give.
 
 use crate::settings::Settings;
 use crate::tally::Tally;

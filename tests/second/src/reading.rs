@@ -9,12 +9,14 @@ pub const HEADER_ROOM: usize = 252;
 /// The most characters a record can have.
 const LONGEST: usize = 514;
 
-/// Why a load or a write was refused; all three are 0 for an accepted one.
+/// Why a load or a write was refused; all of it is 0 for an accepted one.
 #[derive(Clone, Copy, Debug, Default, PartialEq, Eq)]
 pub struct Refusal {
     pub number: u32,
     pub record: usize,
     pub place: usize,
+    /// The checksum that would have been right, in row 7; otherwise 0.
+    pub want: u8,
 }
 
 /// The answer of the loader. After a refusal the entry is absent, and all else
@@ -30,12 +32,13 @@ pub struct Loaded {
 }
 
 impl Loaded {
-    fn refused(number: u32, record: usize, place: usize) -> Loaded {
+    fn refused(number: u32, record: usize, place: usize, want: u8) -> Loaded {
         Loaded {
             refusal: Refusal {
                 number,
                 record,
                 place,
+                want,
             },
             header_len: 0,
             header: [0; HEADER_ROOM],
@@ -58,17 +61,19 @@ pub fn load(text: &[u8], base: u32, memory: &mut [u8], marks: &mut [u8]) -> Load
     // No answer depends on what the marks held before.
     marks.fill(0);
     if row_1(base, memory.len(), marks.len()) {
-        return Loaded::refused(1, 0, 0);
+        return Loaded::refused(1, 0, 0, 0);
     }
     let mut reader = Reader::new(base, memory.len());
     for record in records(text) {
         if let Some(number) = reader.first_row(&record) {
-            return Loaded::refused(number, reader.taken + 1, place_of(number, &record));
+            let place = place_of(number, &record);
+            let want = want_of(number, &record);
+            return Loaded::refused(number, reader.taken + 1, place, want);
         }
         reader.take(&record);
     }
     let Some(entry) = reader.entry else {
-        return Loaded::refused(14, reader.taken, text.len());
+        return Loaded::refused(14, reader.taken, text.len(), 0);
     };
     // Nothing was stored so far: a refusal must leave the memory as it was.
     let cells = reader.store(memory, marks);
@@ -109,6 +114,14 @@ fn place_of(number: u32, record: &Record) -> usize {
     match record.bad_digit() {
         Some(index) if number == 5 => record.place + index,
         _ => record.place,
+    }
+}
+
+/// Only row 7 tells the right checksum, which can be 0 there as well.
+fn want_of(number: u32, record: &Record) -> u8 {
+    match number {
+        7 => record.right_checksum(),
+        _ => 0,
     }
 }
 
@@ -186,6 +199,12 @@ impl Record<'_> {
     /// The index of the checksum's byte pair.
     fn last(&self) -> usize {
         (self.line.len() / 2).saturating_sub(2)
+    }
+
+    /// What the checksum must be by the count, address and data bytes.
+    fn right_checksum(&self) -> u8 {
+        let summed = (0..self.last()).map(|index| self.byte(index));
+        255 - summed.fold(0u8, |sum, byte| sum.wrapping_add(byte))
     }
 
     fn address(&self) -> u64 {
@@ -272,9 +291,7 @@ fn row_6(_: &Reader, record: &Record) -> bool {
 
 /// The checksum differs.
 fn row_7(_: &Reader, record: &Record) -> bool {
-    let summed = (0..record.last()).map(|index| record.byte(index));
-    let sum = summed.fold(0u8, |sum, byte| sum.wrapping_add(byte));
-    record.byte(record.last()) != 255 - sum
+    record.byte(record.last()) != record.right_checksum()
 }
 
 /// An S0 that is not the first record.
@@ -388,6 +405,7 @@ pub fn write(
             number,
             record: 0,
             place,
+            want: 0,
         },
         length: 0,
     };

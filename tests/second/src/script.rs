@@ -80,8 +80,9 @@ fn refusal_words(refusal: &Refusal) -> String {
         number,
         record,
         place,
+        want,
     } = refusal;
-    format!("{number} record {record} at {place}")
+    format!("{number} record {record} at {place} want {want:02X}")
 }
 
 /// Eight digits, or a word for an entry that is absent.

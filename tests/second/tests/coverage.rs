@@ -113,6 +113,29 @@ fn wrong_counts_of_types_without_data() {
     }
 }
 
+/// The least and the largest right checksum must come up in row 7, in each type
+/// that has data or ends the text.
+#[test]
+fn right_checksums() {
+    for limits in [SMALL, FULL] {
+        let mut found = BTreeMap::new();
+        for index in 0..CASES {
+            let mut case = load_case(1, index, limits);
+            let (memory, marks) = (&mut case.memory, &mut case.marks);
+            let refusal = load(&case.text, case.base, memory, marks).refusal;
+            if refusal.number == 7 && [0, 0xFF].contains(&refusal.want) {
+                let kind = char::from(case.text[refusal.place + 1]);
+                *found.entry((refusal.want, kind)).or_insert(0) += 1;
+            }
+        }
+        println!("right checksum and type: {found:?}");
+        for (want, kind) in "0123789".chars().flat_map(|kind| [(0, kind), (0xFF, kind)]) {
+            let times = found.get(&(want, kind));
+            assert!(times.is_some_and(|&n| n >= 5), "{want:02X} in an S{kind}");
+        }
+    }
+}
+
 #[test]
 fn small_cases_are_small_and_reach_all() {
     for seed in 0..20 {

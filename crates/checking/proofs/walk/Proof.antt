@@ -71,17 +71,17 @@ step-of-requires c κs =
 number-fits : (c : tie.After-step-of Inv-loop μ-loop) → own c .loop .state .number + 1 < 2 ^ 64
 number-fits c = let x = next-at (line c) in omega (arith, own c .loop .inv .1 .few .0, x .low, x .some-chars, x .high)
 
-add-refused : tie.Need-add-refused Inv-loop μ-loop
-add-refused c = record { fits = number-fits (c .before .before .before .before) }
+unfit-requires : tie.Need-unfit-requires Inv-loop μ-loop
+unfit-requires c κs = number-fits (c .before .before .before)
 
 same-length-2 : tie.Need-same-length-2 Inv-loop μ-loop
-same-length-2 c = own (c .before .before .before .before .before) .loop .inv .0
+same-length-2 c = own (c .before .before .before .before) .loop .inv .0
 
 returns-2 : tie.Need-returns-2 Inv-loop μ-loop
 returns-2 c =
-    let at-step = c .before .before .before in
+    let at-step = c .before .before in
     let j = at-step .before .before in
-    rw (c .refused2 .ensures) (told-refused lawful counting (own j .loop .inv .1) (next-at (line j)) (j .step-of .ensures) _ (at-step .step .given .1))
+    rw (c .unfit .ensures) (told-refused lawful counting (own j .loop .inv .1) (next-at (line j)) (j .step-of .ensures) _ (at-step .step .given .1))
 
 ended-requires : tie.Need-ended-requires Inv-loop μ-loop
 ended-requires c κs =
@@ -116,8 +116,8 @@ taken c = stepped c .before .before
 claim-requires : tie.Need-claim-requires Inv-loop μ-loop
 claim-requires c κs = tidy-now lawful counting (own (c .before .before .before .before) .loop .inv .1)
 
-add-refused-2 : tie.Need-add-refused-2 Inv-loop μ-loop
-add-refused-2 c = record { fits = number-fits (taken (c .before .before .before .before)) }
+add-refused : tie.Need-add-refused Inv-loop μ-loop
+add-refused c = record { fits = number-fits (taken (c .before .before .before .before)) }
 
 same-length-4 : tie.Need-same-length-4 Inv-loop μ-loop
 same-length-4 c = let k = c .before .before .before .before .before in k .claim .kept .1 .0 ∙ own (taken k) .loop .inv .0
@@ -126,7 +126,7 @@ returns-4 : tie.Need-returns-4 Inv-loop μ-loop
 returns-4 c =
     let k = c .before .before .before .before .before in
     let j = taken k in
-    rw (c .refused3 .ensures) (told-claim lawful counting (own j .loop .inv .1) (next-at (line j)) (j .step-of .ensures) (stepped k .step4 .given .1)
+    rw (c .refused2 .ensures) (told-claim lawful counting (own j .loop .inv .1) (next-at (line j)) (j .step-of .ensures) (stepped k .step4 .given .1)
     (k .claim .ensures .0) _ (c .before .before .if1 .taken))
 
 loop-less-2 : tie.Need-loop-less-2 Inv-loop μ-loop
@@ -161,8 +161,7 @@ walk-spec =
     part-step-of-end
     step-of-requires
     (λ c. search needs)
-    add-refused
-    (λ c κs. search needs)
+    unfit-requires
     same-length-2
     returns-2
     (λ c. search needs)
@@ -175,7 +174,7 @@ walk-spec =
     (λ c. search needs)
     (λ c. search needs)
     claim-requires
-    add-refused-2
+    add-refused
     (λ c κs. search needs)
     same-length-4
     returns-4

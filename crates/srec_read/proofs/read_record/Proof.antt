@@ -16,7 +16,7 @@ use Rattle.srec_read.specs.declared.Record.the-variants.{Good, Bad}
 use Rattle.srec_read.specs.Records.{asRecord}
 use Rattle.srec_read.proofs.KindLaws.{known-type, unknown-type, row-6-inv}
 use Rattle.srec_read.proofs.FieldLaws.{count, count-at}
-use Rattle.srec_read.proofs.ReadLaws.{at-place, row-3, row-4-short, row-4-letter, row-4-type, Head, row-5, row-6, Sized, right, row-7, good-record}
+use Rattle.srec_read.proofs.ReadLaws.{at-place, row-3, row-4-short, row-4-letter, row-4-type, Head, row-5, row-6, Sized, wanted, row-7, good-record}
 use borrow.Author.Needs.{needs}
 use Rattle.srec_read.proofs.read_record.Statement.{statement}
 use Rattle.srec_read.proofs.read_record.Tie as tie
@@ -75,7 +75,7 @@ sized-at c =
     let k = row-6-inv _ (width (own c)) (length (chars (own c))) (n c) (h .type-known) six in
     record { head = h; digits = digits-at (counted (at-count c)); count-is = count-is (at-count c); six = six; long = k .0; least = k .1 }
 
-right-is : (c : tie.After-sum-pairs) → let e = c .before .before in 255 - c .sum-pairs .result % 256 ≡ right (chars (own e)) (width (own e)) (n e) (sized-at e)
+right-is : (c : tie.After-sum-pairs) → let e = c .before .before in 255 - c .sum-pairs .result % 256 ≡ wanted (chars (own e)) (width (own e)) (n e) (sized-at e)
 right-is c = rw add-sub-cancel-left at (ap (λ (s : ℕ). 255 - s % 256) (c .sum-pairs .ensures))
 
 returns : tie.Need-returns
@@ -97,7 +97,7 @@ returns-5 c =
     let d = c .before .before .before in
     let place = call d .args .place in
     let e = bad-at (c .before) in
-    ap (λ (j : ℕ). Bad 5 (place + (2 + j))) e
+    ap (λ (j : ℕ). Bad 5 (place + (2 + j)) 0) e
     ∙ ap (asRecord place) (row-5 (chars d) (width d) (head-at d) (omega (arith, c .if5 .taken, e, length-drop 2 (chars d))))
 
 fits-requires : tie.Need-fits-requires
@@ -128,13 +128,15 @@ returns-7 : tie.Need-returns-7
 returns-7 c =
     let at-byte-of2 = c .before in
     let d = past-6 at-byte-of2 in
-    at-place _ (row-7 _ _ _ (sized-at d) (λ e. c .if7 .taken (at-byte-of2 .byte-of2 .ensures ∙ e ∙ sym (right-is (at-byte-of2 .before .before .before)))))
+    let right = right-is (at-byte-of2 .before .before .before) in
+    let place = call (own d) .args .place in
+    ap (Bad 7 place) right ∙ row-7 _ _ _ (sized-at d) (λ e. c .if7 .taken (at-byte-of2 .byte-of2 .ensures ∙ e ∙ sym right)) place
 
 part-number-of-end : tie.Need-part-number-of-end
 part-number-of-end c = let d = past-6 (c .before) in omega (arith, sized-at d .long, sized-at d .least)
 
-sub-data-count : tie.Need-sub-t38
-sub-data-count c = sized-at (past-6 (c .before .before .before)) .least
+sub-bytes : tie.Need-sub-bytes
+sub-bytes c = sized-at (past-6 (c .before .before .before)) .least
 
 returns-8 : tie.Need-returns-8
 returns-8 c =
@@ -192,5 +194,5 @@ read-record-spec =
     part-number-of-end
     (λ c κs. search needs)
     (λ c. search needs)
-    sub-data-count
+    sub-bytes
     returns-8)

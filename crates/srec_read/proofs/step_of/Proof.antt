@@ -2,6 +2,7 @@
 use mathlib.Core.Path.{sym, ap, _∙_}
 use native.Mathlib.Omega.{arith}
 use Rattle.srec.specs.Kinds.{isKnown}
+use Rattle.srec_read.specs.Records.{refusing}
 use Rattle.srec_read.proofs.FieldLaws.{Got, got}
 use Rattle.srec_read.proofs.JudgeLaws.{step-good, step-bad}
 use borrow.Author.Needs.{needs}
@@ -21,8 +22,9 @@ returns c =
     let told = c .before .enum-told .given in
     let at-read = c .before .before .before in
     let a = call at-read .args in
-    c .unread .ensures (told .0 .0) (told .0 .1 .0) (told .1)
-    ∙ step-bad (a .place) (a .state) (a .chars .now) (told .0 .0) (told .0 .1 .0) (sym (told .1) ∙ at-read .read-record .ensures)
+    c .unread .ensures
+    ∙ ap refusing (told .1)
+    ∙ step-bad (a .place) (a .state) (a .chars .now) (told .0 .0) (told .0 .1 .0) (told .0 .1 .1 .0) (sym (told .1) ∙ at-read .read-record .ensures)
 
 judge-requires : tie.Need-judge-requires
 judge-requires c κs =

@@ -13,7 +13,7 @@ got-at : (c : tie.After-answer) → Got (c .before .before .before .before .args
 got-at c = got _ _ _ _ _ (sym (c .answer .given .1) ∙ c .before .before .read-record .ensures)
 
 returns : tie.Need-returns
-returns c = c .no-header .ensures ∙ header-bad _ _ _ _ (sym (c .before .enum-told .given .1) ∙ c .before .before .before .read-record .ensures)
+returns c = c .no-header .ensures ∙ header-bad _ _ _ _ _ (sym (c .before .enum-told .given .1) ∙ c .before .before .before .read-record .ensures)
 
 returns-2 : tie.Need-returns-2
 returns-2 c = c .no-header2 .ensures ∙ header-other _ _ _ _ (got-at (c .before .before .before)) (c .before .if1 .taken)

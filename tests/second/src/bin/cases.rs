@@ -58,6 +58,7 @@ fn load_line(seed: u64, index: u64) -> String {
         ("number", loaded.refusal.number.to_string()),
         ("record", loaded.refusal.record.to_string()),
         ("place", loaded.refusal.place.to_string()),
+        ("want", loaded.refusal.want.to_string()),
         ("header", array(&loaded.header[..loaded.header_len])),
         ("entry", entry(loaded.entry)),
         ("records", loaded.records.to_string()),
@@ -88,6 +89,7 @@ fn write_line(seed: u64, index: u64) -> String {
         ("number", written.refusal.number.to_string()),
         ("record", written.refusal.record.to_string()),
         ("place", written.refusal.place.to_string()),
+        ("want", written.refusal.want.to_string()),
         ("text_out", array(&out[..written.length])),
     ])
 }

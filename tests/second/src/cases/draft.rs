@@ -28,6 +28,22 @@ impl Draft {
         }
     }
 
+    /// Gives the record this right checksum, by the last byte of an entry, of a
+    /// header or of data. No row but 7 asks for that byte. An S5 and a data
+    /// record without data have none.
+    pub fn aim_checksum(&mut self, checksum: u8) {
+        let is_data = (b'1'..=b'3').contains(&self.kind);
+        let without_data = is_data && self.body.len() == width_of(self.kind);
+        let count = self.body.len() as u8 + 1;
+        if self.kind == b'5' || without_data {
+            return;
+        }
+        if let Some((last, others)) = self.body.split_last_mut() {
+            let sum = others.iter().fold(count, |sum, &b| sum.wrapping_add(b));
+            *last = (!checksum).wrapping_sub(sum);
+        }
+    }
+
     pub fn text(&self) -> Vec<u8> {
         let count = self.count.unwrap_or(self.body.len() as u8 + 1);
         let sum = self.body.iter().fold(count, |sum, &b| sum.wrapping_add(b));
