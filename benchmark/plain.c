@@ -133,15 +133,14 @@ static uint32_t read_record(const uint8_t *chars, size_t length, struct record *
 
 /* ---- load ---- */
 
-/* What was read so far. The width is the first data record's, 0 before it. */
+/* What was read so far. */
 struct state {
     uint64_t number;
     uint64_t records;
-    unsigned width;
     int ended;
 };
 
-/* Rows 8 to 11 for the next record, which is then counted. */
+/* Rows 8, 10 and 11 for the next record, which is then counted. */
 static uint32_t judge(struct state *state, const struct record *record)
 {
     state->number++;
@@ -149,13 +148,10 @@ static uint32_t judge(struct state *state, const struct record *record)
         return state->number == 1 ? 0 : 8;
     if (record->kind == '5')
         return record->address == state->records ? 0 : 10;
-    if (state->width != 0 && state->width != record->width)
-        return 9;
     if (is_terminator(record->kind)) {
         state->ended = 1;
         return 0;
     }
-    state->width = record->width;
     state->records++;
     return (uint64_t)record->address + record->count > (uint64_t)1 << 8 * record->width ? 11 : 0;
 }
@@ -179,7 +175,7 @@ static uint32_t claim(const struct record *record, uint32_t base, uint8_t *marks
 /* The first pass: finds the row that refuses the text, or 0, and marks the cells. */
 static uint32_t check(const uint8_t *text, size_t text_len, uint32_t base, uint8_t *marks, size_t length)
 {
-    struct state state = {0, 0, 0, 0};
+    struct state state = {0, 0, 0};
 
     for (size_t at = 0; at < text_len;) {
         if (is_line_end(text[at])) {

@@ -138,23 +138,20 @@ static uint32_t refuse(const uint8_t *chars, size_t left)
 
 /* ---- load ---- */
 
-/* What was read so far. The width is the first data record's, 0 before it. */
+/* What was read so far. */
 struct state {
     uint64_t number;
     uint64_t records;
-    unsigned width;
     int ended;
 };
 
-/* Rows 8 to 10 for a record that is no data record. */
-static uint32_t judge_other(struct state *state, uint8_t kind, unsigned width, uint32_t address)
+/* Rows 8 and 10 for a record that is no data record. */
+static uint32_t judge_other(struct state *state, uint8_t kind, uint32_t address)
 {
     if (kind == '0')
         return state->number == 1 ? 0 : 8;
     if (kind == '5')
         return address == state->records ? 0 : 10;
-    if (state->width != 0 && state->width != width)
-        return 9;
     state->ended = 1;
     return 0;
 }
@@ -181,15 +178,10 @@ struct window {
     uint8_t *marks;
 };
 
-/* Rows 9 and 11 to 13 for a data record, whose cells are then marked. */
+/* Rows 11 to 13 for a data record, whose cells are then marked. */
 static inline uint32_t judge_data(struct state *state, const struct window *window, unsigned width, uint32_t address,
                                   unsigned count)
 {
-    if (state->width != width) {
-        if (state->width != 0)
-            return 9;
-        state->width = width;
-    }
     uint64_t end = (uint64_t)address + count;
     if (end > (uint64_t)1 << 8 * width)
         return 11;
@@ -221,14 +213,14 @@ static inline uint32_t check_record(const uint8_t *chars, size_t left, struct st
     *length = 4 + 2 * (size_t)count;
     uint32_t address = address_at(chars + 4, width);
     if (!LIKELY(is_data(kind)))
-        return judge_other(state, kind, width, address);
+        return judge_other(state, kind, address);
     return judge_data(state, window, width, address, count - width - 1);
 }
 
 /* The first pass: finds the row that refuses the text, or 0, and marks the cells. */
 static uint32_t check(const uint8_t *text, size_t text_len, const struct window *window)
 {
-    struct state state = {0, 0, 0, 0};
+    struct state state = {0, 0, 0};
 
     for (size_t at = 0; at < text_len;) {
         if (is_line_end(text[at])) {

@@ -43,7 +43,7 @@
 extern "C" {
 #endif
 
-/* Loads a text into a window. Returns 0 if the text is accepted, else the number of the row (1 to 14) that refuses it.
+/* Loads a text into a window. Returns 0 if the text is accepted, else the number of the row (1 to 14, never 9) that refuses it.
  *
  *   text, text_len        the S-record text; lines end in CR, LF or both, and the last need not end
  *   base                  the address of memory[0]
@@ -79,7 +79,7 @@ static inline const char *srec_reason(unsigned number)
         "the record's length does not agree with its count or type",
         "the checksum is wrong",
         "a header record is not the first record",
-        "the address width differs from the first data record's",
+        "reserved: never given any more",
         "the count record does not agree with the data records before it",
         "the data passes the end of the record's address width",
         "some data lies outside the window",

@@ -7,8 +7,8 @@ An edit of kind 'library' breaks a library: tests/second under the face of inclu
 archive and no prover is needed. tests/compare must notice, or tests/c where that does not. An edit of kind 'answers' breaks
 tests/second itself in what the C face does not show; tests/compare must notice that by way of the program vectors, which
 `rt check vectors` builds (and `rt staticlib capi` the archive that tests/compare links). An edit names a file and replaces
-text that stands there exactly once. With no edit nothing may be noticed. One line an edit; the last line is 'N passed, M
-failed'."""
+text that stands there exactly once, or several such texts in turn. With no edit nothing may be noticed. One line an edit; the
+last line is 'N passed, M failed'."""
 
 import os
 import re
@@ -29,21 +29,24 @@ STRESS = {"STRESS_CASES": "500"}
 
 
 def read_edit(path):
-    """The file that an edit names, the text to replace, and what comes in its place."""
+    """The file that an edit names, and the texts to replace, each with what comes in its place."""
     lines = path.read_text(encoding="utf-8").splitlines()
-    keys = ("file: ", "old: ", "new: ")
-    if len(lines) != 3 or not all(line.startswith(key) for line, key in zip(lines, keys)):
-        sys.exit(f"{path}: not the three lines 'file: ', 'old: ' and 'new: '")
-    return [line[len(key) :] for line, key in zip(lines, keys)]
+    keys = ["file: ", *["old: ", "new: "] * max(len(lines) // 2, 1)]
+    if len(lines) != len(keys) or not all(line.startswith(key) for line, key in zip(lines, keys)):
+        sys.exit(f"{path}: not a line 'file: ' and pairs of lines 'old: ' and 'new: '")
+    name, *texts = [line[len(key) :] for line, key in zip(lines, keys)]
+    return name, list(zip(texts[::2], texts[1::2]))
 
 
 def apply(edit, folder):
     """Carries out an edit on the file of a folder that it names."""
-    name, old, new = read_edit(edit)
+    name, pairs = read_edit(edit)
     text = (folder / name).read_text(encoding="utf-8")
-    if text.count(old) != 1:
-        sys.exit(f"{edit}: its old text stands in {name} {text.count(old)} times")
-    (folder / name).write_text(text.replace(old, new), encoding="utf-8")
+    for old, new in pairs:
+        if text.count(old) != 1:
+            sys.exit(f"{edit}: its old text '{old}' stands in {name} {text.count(old)} times")
+        text = text.replace(old, new)
+    (folder / name).write_text(text, encoding="utf-8")
 
 
 def failures(command, places):

@@ -43,6 +43,30 @@ def limits():
     yield "input of 32,769 bytes", run(b"\n" + full), b"too long\n"
     yield "the same in pieces of 1,000", run(b"\n" + full, 1000), b"too long\n"
     yield "longer input", run(b"\n" * LIMIT + full), b"too long\n"
+    text, expected = longest()
+    yield "the longest canonical text", run(text), expected
+
+
+def record(kind, width, address, data):
+    """A record of a type, with its line end."""
+    fields = bytes([width + len(data) + 1]) + address.to_bytes(width, "big") + data
+    return b"S%d%s\n" % (kind, (fields + bytes([255 - sum(fields) % 256])).hex().upper().encode())
+
+
+def longest():
+    """An input of LIMIT bytes whose canonical text is the longest: S1 records of one cell, or of two over a multiple of 16, that
+    nowhere touch, and an entry that makes each of their rows an S3."""
+    across = [(16 * row - 1, b"\1\2") for row in range(1, 512)]
+    apart = [(16 * row + low, b"\3") for row in range(512) for low in (2, 4, 6, 8, 10, 12)][:1929]
+    wider = [(at, b"\3\4") for at, _ in apart if at % 16 == 12][:6]
+    apart = sorted({**dict(apart), **dict(wider)}.items())
+    end = record(7, 4, 1 << 24, b"")
+    text = b"".join(record(1, 2, at, data) for at, data in across + apart) + end[:-1]
+    rows = sorted([(at + i, data[i : i + 1]) for at, data in across for i in (0, 1)] + apart)
+    written = b"".join(record(3, 4, at, data) for at, data in rows)
+    expected = record(0, 2, 0, b"") + written + record(5, 2, len(rows), b"") + end
+    assert len(text) == LIMIT and len(expected) == 50216
+    return text, expected
 
 
 def cases():
@@ -58,7 +82,7 @@ def main():
             passed += 1
         else:
             failed += 1
-            print(f"{name}: printed {printed!r}, expected {expected!r}")
+            print(f"{name}: printed {printed[:2000]!r}, expected {expected[:2000]!r}")
     print(f"{passed} passed, {failed} failed")
     return 1 if failed else 0
 

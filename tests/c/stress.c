@@ -10,7 +10,8 @@
 #include "check.h"
 #include "srec.h"
 
-enum { LAST_ROW = 14, ROOM = 16384, LONGEST_FILE = 8192 };
+/* No row has the number RESERVED. */
+enum { LAST_ROW = 14, RESERVED = 9, ROOM = 16384, LONGEST_FILE = 8192 };
 
 struct text {
     uint8_t *bytes;
@@ -72,10 +73,10 @@ static void put_record(struct text *text, char kind, size_t width, uint64_t addr
     text->length = (size_t)((uint8_t *)at - text->bytes);
 }
 
-/* Appends a data record near the window, seldom of another width or at its width's end. */
+/* Appends a data record near the window, often of another width, seldom at its width's end. */
 static void put_data(struct text *text, size_t width, const struct window *window)
 {
-    size_t own = draw(20) ? width : 2 + draw(3);
+    size_t own = draw(3) ? width : 2 + draw(3);
     uint64_t reach = (uint64_t)1 << 8 * own;
     size_t index = draw(window->length + 1);
     uint64_t address = draw(20) ? (window->base + (uint64_t)index) % reach : reach - 1 - draw(4);
@@ -103,8 +104,10 @@ static void draw_text(struct text *text, const struct window *window)
         put_record(text, '5', 2, draw(4) ? records : draw(65536), 0);
     if (draw(20) == 0)
         put_record(text, '0', 2, 0, 3);
-    if (draw(16))
-        put_record(text, (char)('0' + 11 - width), width, draw(2) * window->base, 0);
+    if (draw(16)) {
+        size_t own = 2 + draw(3);
+        put_record(text, (char)('0' + 11 - own), own, draw(2) * window->base, 0);
+    }
     if (draw(20) == 0)
         put_data(text, width, window);
 }
@@ -293,7 +296,7 @@ int main(int argc, char **argv)
     }
     for (unsigned row = 0; row <= LAST_ROW; row++) {
         printf("%s%u: %u", row ? ", " : "rows ", row, rows[row]);
-        CHECK(rows[row] > 0);
+        CHECK((rows[row] > 0) == (row != RESERVED));
     }
     printf("\n");
     return failures != 0;

@@ -51,7 +51,7 @@ blank-marks (suc n) = ap {B = List ℕ} (λ (r : List ℕ). 0 ∷ r) (blank-mark
 
 -- before the first line
 pub going-start : (F : Format) (form : Form) (text : List ℕ) (base size : ℕ) (marks : List ℕ) → marks ≡ stored form (replicate size 0)
-    → Going F form text base size marks (record { number = 0; records = 0; cells = 0; width = 0 }) 0
+    → Going F form text base size marks (record { number = 0; records = 0; cells = 0 }) 0
 going-start F form text base size marks m =
     record {
       img = blank size;
@@ -194,41 +194,37 @@ module _ {F : Format} {L : Limits} (laws : Lawful F L) (k : Counting F) {form : 
         put-said : Says from s (Put m a count) (F .step s chars)
         put-said = subst (λ (z : Step). Says from s z (F .step s chars)) e said
 
-        -- how many address bytes it has
-        abbrev w : ℕ
-        w = put-said .0
-
         -- its data bytes
         abbrev ds : List ℕ
-        ds = put-said .1
+        ds = put-said .0
 
         -- the state behind it
         abbrev next : ScanState
-        next = moreData s w (length ds)
+        next = moreData s (length ds)
 
         -- the row is that of the image's marks
         row-is : row ≡ claimRow base (marksOf (g .img)) a (length ds)
-        row-is = c ∙ (λ i. claimRow base (flags-now i) a (put-said .3 i))
+        row-is = c ∙ (λ i. claimRow base (flags-now i) a (put-said .2 i))
 
         -- rows 12 and 13
         pub told-claim : (marks′ : List ℕ) → (row ≡ 0 → ⊥) → Told form whole (Refused (refusal row (n .number + 1) from)) marks′
         told-claim marks′ z =
             tell form _ whole marks′ (ap (λ (i : ℕ). refused (refusal row i from)) (add-one (n .number))
             ∙ sym (claim-refused base (g .img) a ds row (suc (n .number)) from (scan (F .step) (length text) next (lines (F .gap) to (drop to text))) row-is z)
-            ∙ walk-store F text base size (g .img) s at (g .walk) from to x w a ds (put-said .2))
+            ∙ walk-store F text base size (g .img) s at (g .walk) from to x a ds (put-said .1))
 
         -- a line has a character for each data byte
         data-fits : length ds ≤ length chars
-        data-fits = k .roomy chars w a ds (carried (F .step s chars) (F .part chars) (laws .says s chars) (put w a ds) (put-said .2) (λ r. r))
+        data-fits = k .roomy chars a ds (carried (F .step s chars) (F .part chars) (laws .says s chars) (put a ds) (put-said .1) (λ r. r))
 
         -- its cells are claimed, and the walk goes on
         pub going-put : (marks′ : List ℕ) → row ≡ 0 → marks′ ≡ stored form (claimed base (flags form size marks) a count) → Going F form text base size marks′ m to
         going-put marks′ z d =
             let granted : 0 ≡ claimRow base (marksOf (g .img)) a (length ds) = sym z ∙ row-is in
             let free : (row12 base (length (g .img)) a (length ds) ≡ false) × (row13 base (g .img) a (length ds) ≡ false) = claim-granted base (g .img) a ds granted in
-            going-on (filled base (g .img) a ds) marks′ next m (put-said .4)
-            (walk-put F text base size (g .img) s at (g .walk) from to x w a ds (put-said .2) (free .0) (free .1))
-            (d ∙ ap (stored form) ((λ i. claimed base (flags-now i) a (put-said .3 i)) ∙ claim-marks base (g .img) a ds granted)) (
+            going-on (filled base (g .img) a ds) marks′ next m (put-said .3)
+            (walk-put F text base size (g .img) s at (g .walk) from to x a ds (put-said .1) (free .0) (free .1))
+            (d ∙ ap (stored form) ((λ i. claimed base (flags-now i) a (put-said .2 i)) ∙ claim-marks base (g .img) a ds granted)) (
               omega (arith, g .few .0, x .low, x .some-chars),
               omega (arith, g .few .1, x .low, x .some-chars),
               omega (arith, g .few .2, data-fits, chars-long, x .low, x .some-chars),

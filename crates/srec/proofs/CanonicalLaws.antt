@@ -3,10 +3,8 @@ use mathlib.Core.Path.{_≡_, refl, sym, ap, _∙_, subst}
 use Prim.Native.Nat.{ℕ, suc, _+_, _*_, _^_, _≤_}
 use native.Mathlib.Nat.{zero-add}
 use native.Mathlib.Omega.{arith}
-use mathlib.Core.Bool.{false, not, _&&_, and-false}
 use mathlib.Core.List.{List, [], _++_, append-nil}
-use mathlib.Core.Logic.{_⊎_, inl, inr}
-use lib.Dec.{eqb, leb, lit≤}
+use lib.Dec.{leb, lit≤}
 use lib.ListN.{length}
 use borrow.Author.Tests.{le-ltb, eq-eqb, leb-true}
 use Rattle.window.specs.declared.Entry.the-variants.{Present}
@@ -16,16 +14,16 @@ use Rattle.window.specs.Plans.Plan.{done}
 use Rattle.window.proofs.PlanLaws.{stores, final}
 use Rattle.lists.proofs.TestLaws.{by-test}
 use Rattle.text.specs.Lines.{lines}
-use Rattle.text.specs.Scan.{State, Step, start, more, moreData, summary, ended, onward, scan}
+use Rattle.text.specs.Scan.{State, Step, start, more, summary, ended, onward, scan}
 use Rattle.text.specs.Runs.{dataLines}
 use Rattle.text.proofs.FormatLaws.{Gives, summaryOf}
-use Rattle.text.proofs.WrittenLaws.{Each, advance, advance-records, advance-cells, advance-header, ReadBack, advance-suits, data-gives}
+use Rattle.text.proofs.WrittenLaws.{Each, advance, advance-records, advance-cells, advance-header, ReadBack, data-gives}
 use Rattle.srec.specs.Lines.{isEnd}
 use Rattle.srec.specs.Kinds.{Kind, kindOf}
 use Rattle.srec.specs.Kinds.Kind.{S0, Data, S5, End}
 use Rattle.srec.specs.Reading.{read}
 use Rattle.srec.specs.Writing.{recordText}
-use Rattle.srec.specs.Judging.{row8, row9, row10, row11, judge, judged}
+use Rattle.srec.specs.Judging.{row8, row10, row11, judge, judged}
 use Rattle.srec.specs.Canonical.{line, dataLine, countLine}
 use Rattle.srec.proofs.RecordLaws.{Fit, read-record}
 use Rattle.srec.proofs.RecordLineLaws.{lines-record}
@@ -34,7 +32,7 @@ use Rattle.srec.proofs.RecordLineLaws.{lines-record}
 abbrev step : State → List ℕ → Step
 step s chars = judged s (read chars)
 
--- a written record comes to rows 8 to 11
+-- a written record comes to rows 8, 10 and 11
 scan-line : (size : ℕ) (s : State) (at : ℕ) (k : Kind) (a : ℕ) (ds rest : List ℕ) → Fit k a ds
     → scan step size s (lines isEnd at (line k a ds rest))
     ≡ onward s at (λ u. scan step size u (lines isEnd (at + suc (length (recordText k a ds))) rest))
@@ -43,22 +41,12 @@ scan-line size s at k a ds rest h = rw (lines-record k a ds rest at h, read-reco
 
 -- ---- the lines of the canonical text, last to first
 
--- the first data record's width is w, or there is none yet
-abbrev Suits : ℕ → State → Type 0
-Suits w s = (s .width ≡ 0) ⊎ (s .width ≡ w)
-
--- row 9 does not apply where the first data record's width is w, or there is none yet
-no-nine : (v w : ℕ) → (v ≡ 0) ⊎ (v ≡ w) → (not (eqb v 0) && not (eqb v w)) ≡ false
-no-nine v w (inl e) = rw (eq-eqb v 0 e)
-no-nine v w (inr e) = rw (eq-eqb v w e) (and-false (not (eqb v 0)))
-
--- the terminator asks for no cells, and ends the text with its entry
-end-gives : (size : ℕ) (s : State) (w e : ℕ) → Fit (End w) e [] → Suits w s → (at : ℕ)
+end-gives : (size : ℕ) (s : State) (w e : ℕ) → Fit (End w) e [] → (at : ℕ)
     → Gives (scan step size s (lines isEnd at (line (End w) e [] []))) [] (done (summary s (Present e)))
-unfolding judge row9
-end-gives size s w e h g at =
+unfolding judge
+end-gives size s w e h at =
     let q : scan step size s (lines isEnd at (line (End w) e [] [])) ≡ done (summary s (Present e))
-    = scan-line size s at (End w) e [] [] h ∙ rw (no-nine (s .width) w g) in
+    = scan-line size s at (End w) e [] [] h in
     record { asks = ap stores q; ends = ap final q }
 
 -- the state behind an S5
@@ -79,12 +67,12 @@ abbrev pub DataFits : ℕ → Run → Type 0
 DataFits w r = (Fit (Data w) (r .addr) (r .bytes)) × (r .addr + length (r .bytes) ≤ 2 ^ (8 * w))
 
 -- a run that fits is written as a data record that is read as this run
-data-reads : (size w : ℕ) (s : State) (r : Run) (rest : List ℕ) (at : ℕ) → Suits w s → DataFits w r → ReadBack step isEnd size w (dataLine w) s r rest at
-unfolding judge row9 row11
-data-reads size w s r rest at u h = record {
+data-reads : (size w : ℕ) (s : State) (r : Run) (rest : List ℕ) (at : ℕ) → DataFits w r → ReadBack step isEnd size (dataLine w) s r rest at
+unfolding judge row11
+data-reads size w s r rest at h = record {
   next = at + suc (length (recordText (Data w) (r .addr) (r .bytes)));
   is = scan-line size s at (Data w) (r .addr) (r .bytes) rest (h .0)
-      ∙ rw (no-nine (s .width) w u, le-ltb (2 ^ (8 * w)) (r .addr + length (r .bytes)) (h .1));
+      ∙ rw (le-ltb (2 ^ (8 * w)) (r .addr + length (r .bytes)) (h .1));
 }
 
 -- ---- the whole text
@@ -101,14 +89,14 @@ pub record Writable (w : ℕ) (rs : List Run) (header : List ℕ) (entry : ℕ) 
   pub last : Fit (End w) entry []
 
 -- S5 if there is one, and the terminator
-tail-gives : (size : ℕ) (s : State) (w e n : ℕ) → n ≡ s .records → Fit (End w) e [] → Suits w s → (at : ℕ)
+tail-gives : (size : ℕ) (s : State) (w e n : ℕ) → n ≡ s .records → Fit (End w) e [] → (at : ℕ)
     → Gives (scan step size s (lines isEnd at (countLine n (line (End w) e [] [])))) [] (done (summary s (Present e)))
 unfolding countLine
-tail-gives size s w e n q h u at =
+tail-gives size s w e n q h at =
     by-test (leb n 65535)
     (λ t. rw (t, q) (count-gives size s (line (End w) e [] []) [] (done (summary s (Present e)))
-    (count-fit (s .records) (rw q at (leb-true n 65535 t))) (end-gives size (counted s) w e h u) at))
-    (λ t. rw t (end-gives size s w e h u at))
+    (count-fit (s .records) (rw q at (leb-true n 65535 t))) (end-gives size (counted s) w e h) at))
+    (λ t. rw t (end-gives size s w e h at))
 
 -- the written text asks for its runs and ends with its header, entry and counts
 pub text-gives : (size w : ℕ) (rs : List Run) (header : List ℕ) (entry : ℕ) → Writable w rs header entry
@@ -117,17 +105,15 @@ pub text-gives : (size w : ℕ) (rs : List Run) (header : List ℕ) (entry : ℕ
 unfolding judge row8
 text-gives size w rs header entry h =
     let s₁ : State = more start header in
-    let s₂ : State = advance w rs s₁ in
+    let s₂ : State = advance rs s₁ in
     let tail : List ℕ = countLine (length rs) (line (End w) entry [] []) in
     let n₁ : ℕ = suc (length (recordText S0 0 header)) in
-    let records : s₂ .records ≡ length rs = advance-records w rs s₁ ∙ zero-add (length rs) in
+    let records : s₂ .records ≡ length rs = advance-records rs s₁ ∙ zero-add (length rs) in
     let same : summary s₂ (Present entry) ≡ summaryOf rs header (Present entry)
-    = λ i. record { header = advance-header w rs s₁ i; entry = Present entry; records = records i; cells = (advance-cells w rs s₁ ∙ zero-add (total rs)) i } in
-    let stays : (s : State) (n : ℕ) → Suits w s → Suits w (moreData s w n) = λ s n u. inr refl in
-    let suits : Suits w s₂ = advance-suits step isEnd size w (dataLine w) (Suits w) (DataFits w) stays (data-reads size w) rs s₁ (inl refl) in
+    = λ i. record { header = advance-header rs s₁ i; entry = Present entry; records = records i; cells = (advance-cells rs s₁ ∙ zero-add (total rs)) i } in
     let all : Gives (scan step size s₁ (lines isEnd n₁ (dataLines (dataLine w) rs tail))) (rs ++ []) (done (summary s₂ (Present entry)))
-    = data-gives step isEnd size w (dataLine w) (Suits w) (DataFits w) stays (data-reads size w) rs s₁ tail [] (done (summary s₂ (Present entry))) (h .cells) (inl refl)
-    (λ at. tail-gives size s₂ w entry (length rs) (sym records) (h .last) suits at) n₁ in
+    = data-gives step isEnd size (dataLine w) (DataFits w) (data-reads size w) rs s₁ tail [] (done (summary s₂ (Present entry))) (h .cells)
+    (λ at. tail-gives size s₂ w entry (length rs) (sym records) (h .last) at) n₁ in
     let e : scan step size start (lines isEnd 0 (line S0 0 header (dataLines (dataLine w) rs tail))) ≡ scan step size s₁ (lines isEnd n₁ (dataLines (dataLine w) rs tail))
     = scan-line size start 0 S0 0 header (dataLines (dataLine w) rs tail) (h .head) ∙ rw zero-add in
     record { asks = ap stores e ∙ all .asks ∙ append-nil rs; ends = ap final e ∙ all .ends ∙ ap done same }

@@ -2,19 +2,19 @@
 use mathlib.Core.Path.{_≡_, refl, sym, subst}
 use Prim.Native.Nat.{ℕ, suc, _+_, _-_, _%_, _<_}
 use native.Mathlib.Omega.{arith}
-use mathlib.Core.Bool.{true, false}
+use mathlib.Core.Bool.{true, false, not, _||_}
 use mathlib.Core.List.{List, [], _∷_}
 use mathlib.Core.Logic.{⊎-elim, _⊎_, inl, inr, _↔_}
-use lib.Dec.{eqb, ltb}
+use lib.Dec.{T, eqb, ltb}
 use lib.ListN.{length}
-use borrow.Author.Tests.{eqb-true, le-leb, lt-leb, le-ltb, lt-ltb, ltb-true, ltb-false, not-false}
+use borrow.Author.Tests.{eqb-true, eq-eqb, ne-eqb, le-leb, lt-leb, le-ltb, lt-ltb, ltb-true, ltb-false, not-false}
 use Rattle.window.specs.declared.Entry.{Entry}
 use Rattle.window.specs.declared.Entry.the-variants.{Absent, Present}
 use Rattle.window.specs.Images.{Image, image}
 use Rattle.window.specs.Cells.{Cell, Run, Addressed, shown}
 use Rattle.window.specs.Plans.{Summary}
 use Rattle.window.specs.Plans.Outcome.{accepted}
-use Rattle.lists.proofs.TestLaws.{by-test}
+use Rattle.lists.proofs.TestLaws.{by-test, T-true, and-both}
 use Rattle.text.specs.Lines.{lines}
 use Rattle.text.specs.Scan.{State, Step, start}
 use Rattle.text.specs.Scan.Step.{refuse, skip, title, put, finish}
@@ -22,6 +22,7 @@ use Rattle.text.specs.Formats.{plan}
 use Rattle.text.specs.Load.{load}
 use Rattle.text.specs.Runs.{runs}
 use Rattle.text.specs.Write.{textOf}
+use Rattle.text.specs.Terms.{loaded}
 use Rattle.text.proofs.WalkLaws.{Inductive, accepted-walk}
 use Rattle.text.proofs.FormatLaws.{IsRefusal, EntryOk}
 use Rattle.window.proofs.OrderLaws.{Rising, rising-image}
@@ -29,18 +30,18 @@ use Rattle.window.proofs.CellLaws.{In, in-flat}
 use Rattle.window.proofs.RoomLaws.{RisingRuns}
 use Rattle.window.proofs.ViewLaws.{shown-marked}
 use Rattle.text.proofs.RunLaws.{flat-runs, AllSized, Longest, sized-runs, longest-runs, rising-runs}
-use Rattle.text.proofs.LoadLaws.{load-inv, accepted-is}
+use Rattle.text.proofs.LoadLaws.{load-inv, accepted-is, answer-given}
 use Rattle.text.proofs.Facts.{text-is-loaded as carried, cells-are-data as data-bytes, cells-are-marks as marked, records-are-counted as counted}
 use Rattle.srec.specs.Lines.{isEnd}
 use Rattle.srec.specs.Kinds.Kind.{S0, Data, S5, End}
 use Rattle.srec.specs.Reading.{Read, row3, read}
 use Rattle.srec.specs.Reading.Read.{good, bad}
 use Rattle.srec.specs.Writing.{recordWith}
-use Rattle.srec.specs.Judging.{row8, row9, row10, row11, judge, judged}
+use Rattle.srec.specs.Judging.{row8, row10, row11, judge, judged}
 use Rattle.srec.specs.Canonical.{follow, line, countLine, canonical}
 use Rattle.srec.specs.Formats.{srec}
-use Rattle.srec.specs.Facts.{Text-is-loaded, Entry-is-present, Cells-are-data, Cells-are-marks, Records-are-counted, Counted, TrueCounts, S5-is-true, Never-empty, Rows, Runs-are-rows, Counts-to-65535, Row-3-from-515}
-use Rattle.srec.proofs.LimitLaws.{limits}
+use Rattle.srec.specs.Facts.{Text-is-loaded, Byte-for-7, Never-9, Entry-is-present, Cells-are-data, Cells-are-marks, Records-are-counted, Counted, TrueCounts, S5-is-true, Never-empty, Rows, Runs-are-rows, Counts-to-65535, Row-3-from-515}
+use Rattle.srec.proofs.LimitLaws.{refuses, limits}
 use Rattle.srec.proofs.SrecFormatLaws.{lawful}
 
 -- an accepted load leaves what its text carries
@@ -66,7 +67,7 @@ abbrev recordsAfter : ℕ → Step → ℕ
 recordsAfter n (refuse f) = n
 recordsAfter n skip = n
 recordsAfter n (title h) = n
-recordsAfter n (put w a ds) = suc n
+recordsAfter n (put a ds) = suc n
 recordsAfter n (finish e) = n
 
 -- a record that is not refused is counted, and row 10 holds of an S5
@@ -77,22 +78,20 @@ count-step s (bad f) x q n rest k = absurd (n (subst IsRefusal q tt))
 count-step s (good S0 a ds) x q n rest k =
     by-test (row8 s) (λ b. absurd (n (subst IsRefusal (rw b at q) tt))) (λ b. subst (λ (y : Step). rest (recordsAfter (s .records) y)) (sym (rw b at q)) k)
 count-step s (good (Data w) a ds) x q n rest k =
-    by-test (row9 (s .width) w) (λ b. absurd (n (subst IsRefusal (rw b at q) tt)))
-    (λ b. by-test (row11 w a (length ds)) (λ v. absurd (n (subst IsRefusal (rw (b, v) at q) tt)))
-    (λ v. subst (λ (y : Step). rest (recordsAfter (s .records) y)) (sym (rw (b, v) at q)) k))
+    by-test (row11 w a (length ds)) (λ b. absurd (n (subst IsRefusal (rw b at q) tt)))
+    (λ b. subst (λ (y : Step). rest (recordsAfter (s .records) y)) (sym (rw b at q)) k)
 count-step s (good S5 a ds) x q n rest k =
     by-test (row10 s a) (λ b. absurd (n (subst IsRefusal (rw b at q) tt)))
     (λ b. (eqb-true a (s .records) (not-false (eqb a (s .records)) b), subst (λ (y : Step). rest (recordsAfter (s .records) y)) (sym (rw b at q)) k))
 count-step s (good (End w) a ds) x q n rest k =
-    by-test (row9 (s .width) w) (λ b. absurd (n (subst IsRefusal (rw b at q) tt)))
-    (λ b. subst (λ (y : Step). rest (recordsAfter (s .records) y)) (sym (rw b at q)) k)
+    subst (λ (y : Step). rest (recordsAfter (s .records) y)) (sym q) k
 
 -- the counts are true from each kind of record on where they are true behind it
 true-counts : (t : Summary) → Inductive (srec .step) t (λ s ls p. TrueCounts (s .records) ls)
 true-counts t = record {
   at-skip = λ s l ls p e k. count-step s (read (l .chars)) skip e (λ r. r) (λ m. TrueCounts m ls) k;
   at-title = λ s l ls p h e k. count-step s (read (l .chars)) (title h) e (λ r. r) (λ m. TrueCounts m ls) k;
-  at-put = λ s l ls p w a ds e k. count-step s (read (l .chars)) (put w a ds) e (λ r. r) (λ m. TrueCounts m ls) k;
+  at-put = λ s l ls p a ds e k. count-step s (read (l .chars)) (put a ds) e (λ r. r) (λ m. TrueCounts m ls) k;
   at-finish = λ s l e q m. count-step s (read (l .chars)) (finish e) q (λ r. r) (λ m. TrueCounts m []) tt;
 }
 
@@ -151,6 +150,25 @@ row-3-from-515 = record { pass = λ chars h. le-ltb 514 (length chars) h; refuse
 present : (e : Entry) → EntryOk limits e → (a : ℕ) × (e ≡ Present a)
 present Absent k = absurd (let q : false ≡ true = k .present in let z : _≡_ {A = ℕ} 0 1 = cc in omega arith)
 present (Present a) k = (a, refl)
+
+-- a row that a load may be refused by is not 9, and has a byte only if it is 7
+not-9 : (n w : ℕ) → T (refuses n w) → n ≡ 9 → ⊥
+not-9 n w h e = rw (eq-eqb n 9 e) at h
+
+no-byte : (n w : ℕ) → T (refuses n w) → (n ≡ 7 → ⊥) → w ≡ 0
+no-byte n w h k = eqb-true w 0 (rw (ne-eqb n 7 k) at (and-both (not (eqb n 9)) (eqb n 7 || eqb w 0) (T-true h) .1))
+
+-- row 7 alone has a byte
+pub byte-for-7 : Byte-for-7
+byte-for-7 W t k =
+    let f = loaded srec W t .refusal in
+    ⊎-elim (λ z. z .1) (λ g. no-byte (f .reason) (f .want) (g .1) k) (answer-given srec limits lawful W t)
+
+-- no load is refused by row 9
+pub never-9 : Never-9
+never-9 W t e =
+    let f = loaded srec W t .refusal in
+    ⊎-elim (λ z. omega (arith, z .0, e)) (λ g. not-9 (f .reason) (f .want) (g .1) e) (answer-given srec limits lawful W t)
 
 -- every accepted load has an entry
 pub entry-is-present : Entry-is-present

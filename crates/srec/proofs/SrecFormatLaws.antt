@@ -19,7 +19,7 @@ use Rattle.text.proofs.FormatLaws.{Storable, Gives, summaryOf, NoRow, Lawful}
 use Rattle.srec.specs.Reading.{read}
 use Rattle.srec.specs.Canonical.{follow, largest, widthFor, canonical}
 use Rattle.srec.specs.Formats.{row15, row18, rows, srec}
-use Rattle.srec.proofs.LimitLaws.{limits, judged-says, step-ok}
+use Rattle.srec.proofs.LimitLaws.{limits, shared, judged-says, step-ok}
 use Rattle.srec.proofs.CanonicalLaws.{Writable, text-gives}
 use Rattle.srec.proofs.FitLaws.{in-largest, entry-largest, largest-below, wide-enough, width-is, all-fit, end-fit, head-fit}
 
@@ -66,6 +66,7 @@ no-row W h e a odd m = (le-ltb 252 (length h) (m .header .short), (odd, (ap not 
 pub lawful : Lawful srec limits
 lawful = record {
   says = λ s cs. judged-says s (read cs);
+  shared = shared;
   bounded = step-ok;
   gives = canonical-gives;
   passes = no-row;

@@ -1,4 +1,4 @@
--- Demand 2 for S-records, and sentences of 01 and Req 02 beside the demands. Their proofs are in proofs/Facts.antt.
+-- Demand 2 for S-records, and sentences of 01 and Reqs 01, 02 and 06 beside the demands. Their proofs are in proofs/Facts.antt.
 use mathlib.Core.Path.{_≡_}
 use Prim.Native.Nat.{ℕ, suc, _+_, _%_, _≤_, _<_}
 use mathlib.Core.Bool.{true, false}
@@ -24,6 +24,14 @@ use Rattle.srec.specs.Formats.{srec}
 -- demand 2: an accepted load leaves the cells, the header and the entry of its text, and every other memory byte as it was
 abbrev pub Text-is-loaded : Type 0
 Text-is-loaded = TextIsLoaded srec
+
+-- Req 01's "Every load answer carries it for refusal 7, otherwise 0"
+abbrev pub Byte-for-7 : Type 0
+Byte-for-7 = (W : Window) (t : List ℕ) → (loaded srec W t .refusal .reason ≡ 7 → ⊥) → loaded srec W t .refusal .want ≡ 0
+
+-- Req 06's "Refusal 9 is never given any more"
+abbrev pub Never-9 : Type 0
+Never-9 = (W : Window) (t : List ℕ) → loaded srec W t .refusal .reason ≡ 9 → ⊥
 
 -- Req 02's "S-record loading gives a present entry"
 abbrev pub Entry-is-present : Type 0

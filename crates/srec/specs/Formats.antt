@@ -27,7 +27,7 @@ abbrev pub rows : Window → List ℕ → Entry → List Row
 rows W header entry =
     rowOf (row15 header) 15 0 ∷ rowOf (row16 (W .marks)) 16 (firstBadMark (W .marks)) ∷ rowOf (row18 entry) 18 0 ∷ []
 
--- line ends, rows 3 to 11 by reading and judging, the canonical text, and the writer's rows 15, 16 and 18
+-- line ends, rows 3 to 8, 10 and 11 by reading and judging, the canonical text, and the writer's rows 15, 16 and 18
 abbrev pub srec : Format
 srec = record {
   gap = isEnd;

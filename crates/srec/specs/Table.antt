@@ -31,17 +31,22 @@ starred =
     ∷ loads "S105FFFF1122C9\n" [] (row 11 1 0)
     ∷ loads "S1030000FC\nS9030000FC\n" [] (holding 1 [])
     ∷ loads "S1040000AA51\nS1040000AA51\n" (0 ∷ []) (row 13 2 13)
-    ∷ loads "S1040000AA51\nS804000000FB\n" (0 ∷ []) (row 9 2 13)
+    ∷ loads "S1040000AA51\nS804000000FB\n" (0 ∷ []) (holding 1 (cell 0 0xAA ∷ []))
     ∷ loads "S5030001FB" [] (row 10 1 0)
     ∷ []
 
--- a line end that is CR; a header and an entry; a run of 17 cells, written in two records
+-- a line end that is CR; widths that grow and shrink, with a terminator of another one, and an S2 that passes FFFF; a header and an
+-- entry; a run of 17 cells, written in two records; an entry that alone decides the width
 abbrev pub accepting : List Case
 accepting =
     loads "S1040000AA51\rS9030000FC\r" (0 ∷ []) (holding 1 (cell 0 0xAA ∷ []))
+    ∷ loads "S1040000AA51\nS205000001BB3E\nS70500000000FA\n" (0 ∷ 1 ∷ []) (holding 2 (cell 0 0xAA ∷ cell 1 0xBB ∷ []))
+    ∷ loads "S205000000AA50\nS1040001BB3F\nS9030000FC\n" (0 ∷ 1 ∷ []) (holding 2 (cell 0 0xAA ∷ cell 1 0xBB ∷ []))
+    ∷ loads "S1030000FC\nS20600FFFF1122C8\nS9030000FC\n" (0xFFFF ∷ 0x10000 ∷ []) (holding 2 (cell 0xFFFF 0x11 ∷ cell 0x10000 0x22 ∷ []))
     ∷ loads "S0050000484969\nS9031234B6\n" [] (passes (0x48 ∷ 0x49 ∷ []) (Present 0x1234) 0 [])
     ∷ writes (block 0 17 0x11) (0x48 ∷ 0x49 ∷ []) (Present 0)
     "S0050000484969\nS113000011111111111111111111111111111111DC\nS104001011DA\nS5030002FA\nS9030000FC\n" 93
+    ∷ writes (cell 0 0xAA ∷ []) [] (Present 0x1000000) "S0030000FC\nS30600000000AA4F\nS5030001FB\nS70501000000F9\n" 54
     ∷ []
 
 -- a window of no cells, of one cell at the address a, and of three cells whose last mark is 2
@@ -70,8 +75,9 @@ refusing =
     ∷ loads "S5030001FA\n" [] (row7With 1 0 0xFB)
     ∷ loads "S1040000AA51\nS1040001FAFF\n" (0 ∷ []) (row7With 2 13 0)
     ∷ loads "S1030000FC\nS0030000FC\n" [] (row 8 2 11)
-    ∷ loads "S1040000AA51\nS205000001BB3E\n" (0 ∷ []) (row 9 2 13)
-    ∷ loads "S1030000FC\nS206FFFFFF1122C9\n" [] (row 9 2 11)
+    ∷ loads "S1030000FC\nS206FFFFFF1122C9\n" [] (row 11 2 11)
+    ∷ loads "S205010000AA4F\nS105FFFF1122C9\n" (0x10000 ∷ []) (row 11 2 15)
+    ∷ loads "S1030000FC\nS307FFFFFFFF1122C9\n" [] (row 11 2 11)
     ∷ loads "S5030001FB\nS9030000FC\n" [] (row 10 1 0)
     ∷ rejects empty (codes "S105FFFF1122C9\n") (refusal 11 1 0)
     ∷ rejects (single 1) (codes "S1040000AA51\n") (refusal 12 1 0)

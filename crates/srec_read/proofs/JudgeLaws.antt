@@ -1,4 +1,4 @@
--- Rows 8 to 11 by numbers: each answer of the function `judge`, and what it says of the step that the definitions take.
+-- Rows 8, 10 and 11 by numbers: each answer of the function `judge`, and what it says of the step that the definitions take.
 use mathlib.Core.Path.{_≡_, refl, sym, ap, _∙_, subst}
 use Prim.Native.Nat.{ℕ, _+_, _*_, _^_, _≤_, _<_}
 use native.Mathlib.Nat.{add-zero}
@@ -22,7 +22,7 @@ use Rattle.text.specs.Steps.{numbers, stateWith, asStep}
 use Rattle.text.proofs.StepLaws.{Counting}
 use Rattle.srec.specs.Reading.{Read, read}
 use Rattle.srec.specs.Reading.Read.{good, bad}
-use Rattle.srec.specs.Judging.{row8, row9, row10, row11, carried, judge, judged}
+use Rattle.srec.specs.Judging.{row8, row10, row11, carried, judge, judged}
 use Rattle.srec.specs.Formats.{srec}
 use Rattle.lists.proofs.TestLaws.{by-test}
 use Rattle.srec_read.specs.declared.Record.the-variants.{Bad}
@@ -98,35 +98,20 @@ module _ (place : ℕ) (n : State) (k : Kind) (a count : ℕ) where
   unfolding judge row10
   passed-s5 e z = rw (e, eq-eqb a (n .records) z)
 
-  -- data and terminators
-  abbrev pub Other : ℕ → Type 0
-  Other w = (k ≡ Data w) ⊎ (k ≡ End w)
+  -- a terminator, of any width
+  pub finished : (w : ℕ) → k ≡ End w → Finish next (Present a) ≡ taken
+  unfolding judge
+  finished w e = rw e
 
-  -- neither S0 nor S5: data or a terminator
-  pub other : (c : ℕ) {w : ℕ} → Sort c w k → (c ≡ 48 → ⊥) → (c ≡ 53 → ⊥) → Other w
-  other c t z f = by-test (ltb 53 c) (λ e. inr (t .end-is (ltb-true 53 c e))) (λ e. inl (t .data-is z f (ltb-false 53 c e)))
+  -- the data passes the end of its own width
+  pub row-11 : (w : ℕ) → k ≡ Data w → 2 ^ (8 * w) < a + count → Refuse 11 place 0 ≡ taken
+  unfolding judge row11
+  row-11 w e l = rw (e, length-replicate, lt-ltb (2 ^ (8 * w)) (a + count) l, add-zero)
 
-  -- another width than the first data record
-  pub row-9 : (w : ℕ) → Other w → row9 (n .width) w ≡ true → Refuse 9 place 0 ≡ taken
-  unfolding judge row9
-  row-9 w (inl e) z = rw (e, z, add-zero)
-  row-9 w (inr e) z = rw (e, z, add-zero)
-
-  -- a terminator of the right width
-  pub finished : (w : ℕ) → k ≡ End w → row9 (n .width) w ≡ false → Finish next (Present a) ≡ taken
-  unfolding judge row9
-  finished w e z = rw (e, z)
-
-  -- the data passes the end of the width
-  pub row-11 : (w : ℕ) → k ≡ Data w → row9 (n .width) w ≡ false → 2 ^ (8 * w) < a + count → Refuse 11 place 0 ≡ taken
-  unfolding judge row9 row11
-  row-11 w e z l = rw (e, z, length-replicate, lt-ltb (2 ^ (8 * w)) (a + count) l, add-zero)
-
-  -- data of the right width, within it
-  pub stored : (w : ℕ) → k ≡ Data w → row9 (n .width) w ≡ false → a + count ≤ 2 ^ (8 * w)
-      → Put (numbers (moreData (stateWith [] n) w count)) a count ≡ taken
-  unfolding judge row9 row11
-  stored w e z l = rw (e, z, length-replicate, le-ltb (2 ^ (8 * w)) (a + count) l, length-replicate)
+  -- data within its own width
+  pub stored : (w : ℕ) → k ≡ Data w → a + count ≤ 2 ^ (8 * w) → Put (numbers (moreData (stateWith [] n) count)) a count ≡ taken
+  unfolding judge row11
+  stored w e l = rw (e, length-replicate, le-ltb (2 ^ (8 * w)) (a + count) l, length-replicate)
 
 -- ---- the numbers decide the step
 
@@ -136,10 +121,9 @@ judge-numbers : (place : ℕ) (s : ScanState) (k : Kind) (a : ℕ) (ds : List �
 unfolding judge row11
 judge-numbers place s S0 a ds = by-test (row8 s) (λ e. rw e refl) (λ e. rw e refl)
 judge-numbers place s (Data w) a ds =
-    by-test (row9 (s .width) w) (λ e. rw e refl)
-    (λ e. by-test (ltb (2 ^ (8 * w)) (a + length ds)) (λ f. rw (e, length-replicate, f) refl) (λ f. rw (e, length-replicate, f, length-replicate) refl))
+    by-test (ltb (2 ^ (8 * w)) (a + length ds)) (λ e. rw (length-replicate, e) refl) (λ e. rw (length-replicate, e, length-replicate) refl)
 judge-numbers place s S5 a ds = by-test (row10 s a) (λ e. rw e refl) (λ e. rw e refl)
-judge-numbers place s (End w) a ds = by-test (row9 (s .width) w) (λ e. rw e refl) (λ e. rw e refl)
+judge-numbers place s (End w) a ds = refl
 
 module _ (place : ℕ) (n : State) (chars : List ℕ) where
   -- the step that the definitions take of the characters
@@ -173,10 +157,10 @@ headless h n (good S5 a ds) = refl
 headless h n (good (End w) a ds) = refl
 
 -- a record has a character for each of its data bytes
-roomy : (cs : List ℕ) (w a : ℕ) (ds : List ℕ) → carried (read cs) ≡ put w a ds → length ds ≤ length cs
-roomy cs w a ds q = go (read cs) refl q
+roomy : (cs : List ℕ) (a : ℕ) (ds : List ℕ) → carried (read cs) ≡ put a ds → length ds ≤ length cs
+roomy cs a ds q = go (read cs) refl q
   where
-    go : (r : Read) → read cs ≡ r → carried r ≡ put w a ds → length ds ≤ length cs
+    go : (r : Read) → read cs ≡ r → carried r ≡ put a ds → length ds ≤ length cs
     go (bad f) e p = absurd (let z : _≡_ {A = ℕ} 0 1 = cc in omega arith)
     go (good S0 b es) e p = absurd (let z : _≡_ {A = ℕ} 0 1 = cc in omega arith)
     go (good (Data v) b es) e p =

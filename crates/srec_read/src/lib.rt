@@ -1,4 +1,4 @@
-// One record: read (rows 3 to 7), and judged against what came before it (rows 8 to 11, on numbers alone).
+// One record: read (rows 3 to 7), and judged against what came before it (rows 8, 10 and 11, on numbers alone).
 use text::State;
 use text::Step;
 use window::Entry;
@@ -11,7 +11,7 @@ ghost use Rattle.hex.specs.Tables.{digitTable};
 ghost use Rattle.text.specs.Steps.{stateWith, asStep};
 ghost use Rattle.srec.specs.Kinds.{kindOf, isKnown, known};
 ghost use Rattle.srec.specs.Reading.{row6, read};
-ghost use Rattle.srec.specs.Judging.{row9, judge as judgeScan};
+ghost use Rattle.srec.specs.Judging.{judge as judgeScan};
 ghost use Rattle.srec.specs.Formats.{srec};
 ghost use Rattle.srec_read.specs.Records.{widthOr0, asRecord, refusing};
 
@@ -102,13 +102,6 @@ pub fn read_record(table: &[u8; 256], chars: &[u8], place: usize) -> Record
     Record::Good(kind, address, bytes)
 }
 
-// Row 9: is there a first data record, of another width?
-fn differs(first: usize, width: usize) -> bool
-    ensures { λ r. ⌜ r ≡ row9 first width ⌝ }
-{
-    first != 0 && first != width
-}
-
 // How many addresses `width` bytes hold.
 fn limit(width: usize) -> usize
     requires { ⌜ (2 ≤ width) × (width ≤ 4) ⌝ }
@@ -117,7 +110,7 @@ fn limit(width: usize) -> usize
     1usize << (8 * width)
 }
 
-// Rows 8 to 11 for a record that was read, against what came before it.
+// Rows 8, 10 and 11 for a record that was read, against what came before it.
 fn judge(state: State, kind: u8, address: u32, count: usize, place: usize) -> Step
     requires { ⌜ (isKnown (kindOf kind) ≡ true) × (state .number + 1 < 2 ^ 64) × (state .records + 1 < 2 ^ 64) × (state .cells + count < 2 ^ 64) × (count < 2 ^ 32) ⌝ }
     ensures { λ r. ⌜ r ≡ asStep place (stateWith [] state) (judgeScan (stateWith [] state) (known (kindOf kind)) address (replicate count 0)) ⌝ }
@@ -135,18 +128,15 @@ fn judge(state: State, kind: u8, address: u32, count: usize, place: usize) -> St
         }
         return Step::Pass(next);
     }
-    let width = width_of(kind);
-    if differs(state.width, width) {
-        return Step::Refuse(9, place, 0);
-    }
     // S7 to S9 end the text; S1 to S3 are left
     if kind > b'5' {
         return Step::Finish(next, Entry::Present(address));
     }
+    let width = width_of(kind);
     if address as usize + count > limit(width) {
         return Step::Refuse(11, place, 0);
     }
-    let more = text::after_data(state, width, count);
+    let more = text::after_data(state, count);
     Step::Put(more, address, count)
 }
 
@@ -160,7 +150,7 @@ fn unread(answer: Record) -> Step
     }
 }
 
-// What a record does that stands at a place of its text, behind the records before it: rows 3 to 11.
+// What a record does that stands at a place of its text, behind the records before it: rows 3 to 8, 10 and 11.
 pub fn step_of(table: &[u8; 256], state: State, chars: &[u8], place: usize) -> Step
     requires { ⌜ (now table ≡ digitTable) × (place + length (now chars) < 2 ^ 64) ⌝ }
     requires { ⌜ (state .number + 1 < 2 ^ 64) × (state .records + 1 < 2 ^ 64) × (state .cells + length (now chars) < 2 ^ 64) ⌝ }

@@ -94,11 +94,11 @@ module _ (F : Format) (L : Limits) (laws : Lawful F L) (text : List ℕ) (base :
     on u w m′ q = inl (record { img = g .img; s = u; walk = w; memory-is = q ∙ g .memory-is })
 
     -- a data line has room
-    put-on : (w a : ℕ) (ds : List ℕ) → F .step (g .s) chars ≡ put w a ds → Turn m to (put w a ds)
-    put-on w a ds e =
-        let u : State = moreData (g .s) w (length ds) in
+    put-on : (a : ℕ) (ds : List ℕ) → F .step (g .s) chars ≡ put a ds → Turn m to (put a ds)
+    put-on a ds e =
+        let u : State = moreData (g .s) (length ds) in
         let rest : Plan = scan (F .step) (length text) u (lines (F .gap) to (drop to text)) in
-        let st : placed base (g .img) (store (suc (g .s .number)) from a ds rest) ≡ whole = walk-store F text base (length m₀) (g .img) (g .s) at (g .walk) from to x w a ds e in
+        let st : placed base (g .img) (store (suc (g .s .number)) from a ds rest) ≡ whole = walk-store F text base (length m₀) (g .img) (g .s) at (g .walk) from to x a ds e in
         by-test (row12 base (length (g .img)) a (length ds)) (λ t. absurd (never (rw t at st)))
         (λ t. by-test (row13 base (g .img) a (length ds)) (λ v. absurd (never (rw (t, v) at st)))
         (λ v. record {
@@ -106,7 +106,7 @@ module _ (F : Format) (L : Limits) (laws : Lawful F L) (text : List ℕ) (base :
           goes-on = λ m′ q. inl (record {
             img = filled base (g .img) a ds;
             s = u;
-            walk = walk-put F text base (length m₀) (g .img) (g .s) at (g .walk) from to x w a ds e t v;
+            walk = walk-put F text base (length m₀) (g .img) (g .s) at (g .walk) from to x a ds e t v;
             memory-is = q ∙ ap (λ (y : List ℕ). over y (a - base) ds) (g .memory-is) ∙ sym (overlaid-filled m₀ base (g .img) a ds (sym (g .walk .long)) t);
           });
         }))
@@ -124,7 +124,7 @@ module _ (F : Format) (L : Limits) (laws : Lawful F L) (text : List ℕ) (base :
     turned (refuse f) e = absurd (not-refused f e)
     turned skip e = record { placeable = tt; goes-on = on (more (g .s) (g .s .header)) (walk-skip F text base (length m₀) (g .img) (g .s) at (g .walk) from to x e) }
     turned (title h) e = record { placeable = tt; goes-on = on (more (g .s) h) (walk-title F text base (length m₀) (g .img) (g .s) at (g .walk) from to x h e) }
-    turned (put w a ds) e = put-on w a ds e
+    turned (put a ds) e = put-on a ds e
     turned (finish a) e = record { placeable = tt; goes-on = end-on a e }
 
     -- the step is no refusal
@@ -132,7 +132,7 @@ module _ (F : Format) (L : Limits) (laws : Lawful F L) (text : List ℕ) (base :
     no-refusal (refuse f) e r = not-refused f e
     no-refusal skip e r = r
     no-refusal (title h) e r = r
-    no-refusal (put w a ds) e r = r
+    no-refusal (put a ds) e r = r
     no-refusal (finish a) e r = r
 
     -- the step is what the line carries

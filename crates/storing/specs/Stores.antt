@@ -16,7 +16,7 @@ abbrev pub storedBy : ℕ → List ℕ → Step → List ℕ
 storedBy base m (refuse f) = m
 storedBy base m skip = m
 storedBy base m (title h) = m
-storedBy base m (put w a ds) = over m (a - base) ds
+storedBy base m (put a ds) = over m (a - base) ds
 storedBy base m (finish e) = m
 
 -- a line that was read and has no data outside the window
@@ -24,7 +24,7 @@ abbrev pub Placeable : ℕ → ℕ → Step → Type 0
 Placeable base size (refuse f) = ⊥
 Placeable base size skip = Unit {0}
 Placeable base size (title h) = Unit {0}
-Placeable base size (put w a ds) = row12 base size a (length ds) ≡ false
+Placeable base size (put a ds) = row12 base size a (length ds) ≡ false
 Placeable base size (finish e) = Unit {0}
 
 -- an outcome that is no refusal

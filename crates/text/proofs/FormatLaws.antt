@@ -5,7 +5,7 @@ use native.Mathlib.Omega.{arith}
 use mathlib.Core.Bool.{Bool, false}
 use mathlib.Core.List.{List, [], _∷_}
 use mathlib.Core.Logic.{_⊎_, inl, inr}
-use lib.Dec.{lit<}
+use lib.Dec.{T, lit<}
 use lib.ListN.{length}
 use Rattle.window.specs.declared.Entry.{Entry}
 use Rattle.window.specs.Windows.{Window, Allowed, row16}
@@ -30,12 +30,14 @@ use Rattle.text.proofs.WalkLaws.{Inductive, accepted-walk, Counts, coun
 
 -- ---- bounds
 
--- what a format's texts can hold: addresses below `top`, headers of at most `most` bytes, an entry or none; and the cut rule of its canonical text
+-- what a format's texts can hold: addresses below `top`, headers of at most `most` bytes, an entry or none; the cut rule of its canonical
+-- text; and the rows, each with the byte that would have been right, that a load may be refused by
 pub record Limits : Type 0 where
   pub top : ℕ
   pub most : ℕ
   pub started : Bool
   pub follow : ℕ → ℕ
+  pub refuses : ℕ → ℕ → Bool
 
 -- a header within the limits
 pub record HeaderOk (L : Limits) (h : List ℕ) : Type 0 where
@@ -54,12 +56,24 @@ pub record Storable (L : Limits) (cs : List Cell) (h : List ℕ) (e : Entry) : T
   pub header : HeaderOk L h
   pub entry : EntryOk L e
 
+-- a row other than 0, and a byte, that the limits have
+abbrev pub Given : Limits → ℕ → ℕ → Type 0
+Given L reason want = (0 < reason) × T (L .refuses reason want)
+
+-- the rows that no format decides
+pub record Shared (L : Limits) : Type 0 where
+  pub one : T (L .refuses 1 0)
+  pub two : T (L .refuses 2 0)
+  pub twelve : T (L .refuses 12 0)
+  pub thirteen : T (L .refuses 13 0)
+  pub fourteen : T (L .refuses 14 0)
+
 -- a line is refused for a reason, or keeps to the limits; a header is the first line
 abbrev pub StepOk : Limits → State → Step → Type 0
-StepOk L s (refuse f) = 0 < f .reason
+StepOk L s (refuse f) = Given L (f .reason) (f .want)
 StepOk L s skip = Unit {0}
 StepOk L s (title h) = HeaderOk L h × (s .number ≡ 0)
-StepOk L s (put w a ds) = Bytes ds × (a + length ds ≤ L .top)
+StepOk L s (put a ds) = Bytes ds × (a + length ds ≤ L .top)
 StepOk L s (finish e) = EntryOk L e
 
 -- ---- what a format has to show
@@ -69,7 +83,7 @@ abbrev pub IsRefusal : Step → Type 0
 IsRefusal (refuse f) = Unit {0}
 IsRefusal skip = ⊥
 IsRefusal (title h) = ⊥
-IsRefusal (put w a ds) = ⊥
+IsRefusal (put a ds) = ⊥
 IsRefusal (finish e) = ⊥
 
 -- a plan stores these runs and ends so; numbers and places of lines are forgotten
@@ -90,6 +104,8 @@ NoRow (r ∷ rs) = (r .applies ≡ false) × NoRow rs
 pub record Lawful (F : Format) (L : Limits) : Type 0 where
   -- a line that is not refused does what it carries
   pub says : (s : State) (cs : List ℕ) → IsRefusal (F .step s cs) ⊎ (F .step s cs ≡ F .part cs)
+  -- the limits have the rows that no format decides
+  pub shared : Shared L
   -- a line keeps to the limits
   pub bounded : (s : State) (cs : List ℕ) → StepOk L s (F .step s cs)
   -- the plan of a canonical text asks for the runs of its cells and ends with its header and entry
@@ -103,14 +119,14 @@ pub record Lawful (F : Format) (L : Limits) : Type 0 where
 -- a plan keeps to the limits, or stops for a reason
 abbrev pub PlanOk : Limits → Plan → Type 0
 PlanOk L (store n at a ds p) = Bytes ds × (a + length ds ≤ L .top) × PlanOk L p
-PlanOk L (stop f) = 0 < f .reason
+PlanOk L (stop f) = Given L (f .reason) (f .want)
 PlanOk L (done s) = HeaderOk L (s .header) × EntryOk L (s .entry)
 
-module _ (step : State → List ℕ → Step) (L : Limits) (ok : (s : State) (cs : List ℕ) → StepOk L s (step s cs)) (size : ℕ) where
+module _ (step : State → List ℕ → Step) (L : Limits) (shared : Shared L) (ok : (s : State) (cs : List ℕ) → StepOk L s (step s cs)) (size : ℕ) where
   -- a text that has ended keeps to the limits, or row 2 refuses what is behind its end
   ended-ok : (s : State) (e : Entry) (ls : List Line) → HeaderOk L (s .header) → EntryOk L e → PlanOk L (ended s e ls)
   ended-ok s e [] h k = (h, k)
-  ended-ok s e (l ∷ ls) h k = lit< tt
+  ended-ok s e (l ∷ ls) h k = (lit< tt, shared .two)
 
   -- what a step within the limits leads to is within them, where the rest is
   onward-ok : (at : ℕ) (s : State) (ls : List Line) → ((u : State) → HeaderOk L (u .header) → PlanOk L (scan step size u ls)) → HeaderOk L (s .header)
@@ -118,19 +134,19 @@ module _ (step : State → List ℕ → Step) (L : Limits) (ok : (s : State) (cs
   onward-ok at s ls g h (refuse f) k = k
   onward-ok at s ls g h skip k = g (more s (s .header)) h
   onward-ok at s ls g h (title t) k = g (more s t) (k .0)
-  onward-ok at s ls g h (put w a ds) k = (k .0, k .1, g (moreData s w (length ds)) h)
+  onward-ok at s ls g h (put a ds) k = (k .0, k .1, g (moreData s (length ds)) h)
   onward-ok at s ls g h (finish e) k = ended-ok s e ls h k
 
   -- the plan of any lines keeps to the limits, or stops for a reason
   scan-ok : (s : State) (ls : List Line) → HeaderOk L (s .header) → PlanOk L (scan step size s ls)
-  scan-ok s [] h = lit< tt
+  scan-ok s [] h = (lit< tt, shared .fourteen)
   scan-ok s (l ∷ ls) h = onward-ok (l .place) s ls (λ u k. scan-ok u ls k) h (step s (l .chars)) (ok s (l .chars))
 
 -- the plan of any text keeps to the limits, or stops for a reason
 pub plan-ok : (F : Format) (L : Limits) → Lawful F L → (text : List ℕ) → PlanOk L (plan F text)
 unfolding plan
 plan-ok F L laws text =
-    scan-ok (F .step) L (laws .bounded) (length text) start (lines (F .gap) 0 text) (record { bytes = tt; short = omega arith })
+    scan-ok (F .step) L (laws .shared) (laws .bounded) (length text) start (lines (F .gap) 0 text) (record { bytes = tt; short = omega arith })
 
 -- the data of every run are bytes, and end at the limit at the latest
 abbrev pub AllBytes : Limits → List Run → Type 0
@@ -150,17 +166,17 @@ final-ok L (stop f) s o q = absurd (let z : _≡_ {A = ℕ} 0 1 = cc in omega ar
 final-ok L (done t) s o q = let e : t ≡ s = cc in subst (λ (u : Summary). HeaderOk L (u .header) × EntryOk L (u .entry)) e o
 
 -- a refused load has a reason
-abbrev pub Reasoned : Outcome → Type 0
-Reasoned (refused f) = 0 < f .reason
-Reasoned (accepted s img) = Unit {0}
+abbrev pub Reasoned : Limits → Outcome → Type 0
+Reasoned L (refused f) = Given L (f .reason) (f .want)
+Reasoned L (accepted s img) = Unit {0}
 
 -- in any window a plan within the limits is accepted, or refused for a reason
-pub placed-reasoned : (L : Limits) (p : Plan) (base : ℕ) (img : Image) → PlanOk L p → Of Reasoned (placed base img p)
-placed-reasoned L (store n at a ds p) base img h =
-    either (row12 base (length img) a (length ds)) (record { got = lit< tt })
-    (either (row13 base img a (length ds)) (record { got = lit< tt }) (placed-reasoned L p base (filled base img a ds) (h .2)))
-placed-reasoned L (stop f) base img h = record { got = h }
-placed-reasoned L (done s) base img h = record { got = tt }
+pub placed-reasoned : (L : Limits) → Shared L → (p : Plan) (base : ℕ) (img : Image) → PlanOk L p → Of (Reasoned L) (placed base img p)
+placed-reasoned L shared (store n at a ds p) base img h =
+    either (row12 base (length img) a (length ds)) (record { got = (lit< tt, shared .twelve) })
+    (either (row13 base img a (length ds)) (record { got = (lit< tt, shared .thirteen) }) (placed-reasoned L shared p base (filled base img a ds) (h .2)))
+placed-reasoned L shared (stop f) base img h = record { got = h }
+placed-reasoned L shared (done s) base img h = record { got = tt }
 
 -- ---- content of an accepted plan
 
@@ -211,7 +227,7 @@ module _ (F : Format) (L : Limits) (laws : Lawful F L) (t : Summary) where
       first = λ z. k .header (omega arith);
       at-first = λ z. k .header (omega arith);
     });
-    at-put = λ s l ls p w a ds e k. rw (carried s (l .chars) (put w a ds) e (λ r. r)) (record {
+    at-put = λ s l ls p a ds e k. rw (carried s (l .chars) (put a ds) e (λ r. r)) (record {
       asks = ap {B = List Run} (λ x. record { addr = a; bytes = ds } ∷ x) (k .asks);
       entry = k .entry;
       header = λ n. k .header (omega arith);

@@ -4,7 +4,7 @@ use Prim.Native.Nat.{ℕ, _+_, _-_, _^_, _≤_, _<_}
 use native.Mathlib.Omega.{arith}
 use mathlib.Core.Bool.{false}
 use mathlib.Core.List.{List, [], _∷_}
-use mathlib.Core.Logic.{inl, inr, _↔_}
+use mathlib.Core.Logic.{_⊎_, inl, inr, _↔_}
 use lib.Dec.{lit<}
 use lib.ListN.{length, replicate, length-map}
 use lib.Seq.{take-at}
@@ -31,9 +31,9 @@ use Rattle.text.specs.Formats.{Row, Format, plan}
 use Rattle.text.specs.Load.{load, loadAnswer}
 use Rattle.text.specs.Write.{WriteOutcome, tried, textOf, row17, write}
 use Rattle.text.specs.Write.WriteOutcome.{declined, wrote}
-use Rattle.text.specs.Terms.{after, textData, textHeader, textEntry, CellOf, Accepted, writtenAfter, Enough}
+use Rattle.text.specs.Terms.{after, textData, textHeader, textEntry, CellOf, loaded, Accepted, writtenAfter, Enough}
 use Rattle.text.proofs.RunLaws.{flat-runs}
-use Rattle.text.proofs.FormatLaws.{Limits, HeaderOk, EntryOk, Storable, Gives, summaryOf, NoRow, Lawful, AllBytes, plan-ok, stores-ok, final-ok, Reasoned, placed-reasoned, Content, content}
+use Rattle.text.proofs.FormatLaws.{Limits, HeaderOk, EntryOk, Storable, Gives, summaryOf, NoRow, Lawful, AllBytes, Given, plan-ok, stores-ok, final-ok, Reasoned, placed-reasoned, Content, content}
 
 -- ---- an accepted load
 
@@ -142,18 +142,26 @@ module _ (F : Format) (L : Limits) (laws : Lawful F L) where
       rw q (λ k. marked-in (W .base) (W .memory) img A B (b .long) k, λ k. in-marked (W .base) (W .memory) img A B (b .long) k)
 
   -- every load is accepted, or refused for a reason
-  load-reasoned : (W : Window) (text : List ℕ) → Of Reasoned (load W (plan F text))
+  load-reasoned : (W : Window) (text : List ℕ) → Of (Reasoned L) (load W (plan F text))
   unfolding load
   load-reasoned W text =
-      either (row1 W) (record { got = lit< tt }) (placed-reasoned L (plan F text) (W .base) (blank (length (W .memory))) (plan-ok F L laws text))
+      either (row1 W) (record { got = (lit< tt, laws .shared .one) }) (placed-reasoned L (laws .shared) (plan F text) (W .base) (blank (length (W .memory))) (plan-ok F L laws text))
 
   -- a load with refusal number 0 has a summary and an image
   pub accepted-is : (W : Window) (text : List ℕ) → Accepted F W text → (s : Summary) × (img : Image) × (load W (plan F text) ≡ accepted s img)
   accepted-is W text h = go (load W (plan F text)) (load-reasoned W text .got) h
     where
-      go : (o : Outcome) → Reasoned o → loadAnswer o .refusal .reason ≡ 0 → (s : Summary) × (img : Image) × (o ≡ accepted s img)
-      go (refused f) r q = absurd (omega arith)
+      go : (o : Outcome) → Reasoned L o → loadAnswer o .refusal .reason ≡ 0 → (s : Summary) × (img : Image) × (o ≡ accepted s img)
+      go (refused f) r q = absurd (omega (arith, r .0))
       go (accepted s img) r q = (s, img, refl)
+
+  -- the number and the byte of any answer: both 0, or a row's
+  pub answer-given : (W : Window) (text : List ℕ) → let f = loaded F W text .refusal in ((f .reason ≡ 0) × (f .want ≡ 0)) ⊎ Given L (f .reason) (f .want)
+  answer-given W text = go (load W (plan F text)) (load-reasoned W text .got)
+    where
+      go : (o : Outcome) → Reasoned L o → let f = loadAnswer o .refusal in ((f .reason ≡ 0) × (f .want ≡ 0)) ⊎ Given L (f .reason) (f .want)
+      go (refused f) r = inr r
+      go (accepted s img) r = inl (refl, refl)
 
   -- ---- the canonical text of cells
 

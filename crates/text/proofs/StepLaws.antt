@@ -15,13 +15,13 @@ use Rattle.text.specs.Steps.{stateWith, asStep}
 -- a format whose steps do not look at the header, and whose lines have a character for each data byte: its numbers can be kept and stay small
 pub record Counting (F : Format) : Type 0 where
   pub headless : (h : List ℕ) (n : State) (cs : List ℕ) → F .step (stateWith h n) cs ≡ F .step (stateWith [] n) cs
-  pub roomy : (cs : List ℕ) (w a : ℕ) (ds : List ℕ) → F .part cs ≡ put w a ds → length ds ≤ length cs
+  pub roomy : (cs : List ℕ) (a : ℕ) (ds : List ℕ) → F .part cs ≡ put a ds → length ds ≤ length cs
 
 -- what a step in numbers says of the definitions' step; the state of its numbers is the walk's next one
 abbrev pub Says : ℕ → ScanState → Step → ScanStep → Type 0
 Says place s (Refuse reason at want) x = (f : Fault) × (x ≡ refuse f) × (Refuse reason at want ≡ Refuse (f .reason) (place + f .offset) (f .want))
 Says place s (Pass n) x = ((x ≡ skip) × (stateWith (s .header) n ≡ more s (s .header))) ⊎ ((h : List ℕ) × (x ≡ title h) × (stateWith h n ≡ more s h))
-Says place s (Put n a c) x = (w : ℕ) × (ds : List ℕ) × (x ≡ put w a ds) × (c ≡ length ds) × (stateWith (s .header) n ≡ moreData s w (length ds))
+Says place s (Put n a c) x = (ds : List ℕ) × (x ≡ put a ds) × (c ≡ length ds) × (stateWith (s .header) n ≡ moreData s (length ds))
 Says place s (Finish n e) x = (x ≡ finish e) × (stateWith (s .header) n ≡ more s (s .header))
 
 -- a step in numbers says what the step is
@@ -29,7 +29,7 @@ says : (place : ℕ) (s : ScanState) (x : ScanStep) → Says place s (asStep pla
 says place s (refuse f) = (f, refl, refl)
 says place s skip = inl (refl, refl)
 says place s (title h) = inr (h, refl, refl)
-says place s (put w a ds) = (w, ds, refl, refl, refl)
+says place s (put a ds) = (ds, refl, refl, refl)
 says place s (finish e) = (refl, refl)
 
 -- the header does not matter to the numbers
@@ -37,7 +37,7 @@ plain : (place : ℕ) (h : List ℕ) (n : State) (x : ScanStep) → asStep place
 plain place h n (refuse f) = refl
 plain place h n skip = refl
 plain place h n (title t) = refl
-plain place h n (put w a ds) = refl
+plain place h n (put a ds) = refl
 plain place h n (finish e) = refl
 
 -- the answer for the numbers says what the step is, whatever the header

@@ -68,16 +68,16 @@ module _ (F : Format) (text : List ℕ) (base size : ℕ) (img : Image) (s : Sta
     walk-ended a e = turn (finish a) e
 
     -- the outcome is that of storing the data, and the rest
-    pub walk-store : (v a : ℕ) (ds : List ℕ) → F .step s (part text from to) ≡ put v a ds
-        → placed base img (store (suc (s .number)) from a ds (go (moreData s v (length ds)))) ≡ whole
-    walk-store v a ds e = turn (put v a ds) e
+    pub walk-store : (a : ℕ) (ds : List ℕ) → F .step s (part text from to) ≡ put a ds
+        → placed base img (store (suc (s .number)) from a ds (go (moreData s (length ds)))) ≡ whole
+    walk-store a ds e = turn (put a ds) e
 
     -- a data line that rows 12 and 13 let pass: the walk goes on with the filled image
-    pub walk-put : (v a : ℕ) (ds : List ℕ) → F .step s (part text from to) ≡ put v a ds
-        → row12 base (length img) a (length ds) ≡ false → row13 base img a (length ds) ≡ false → Walk F text base size (filled base img a ds) (moreData s v (length ds)) to
-    walk-put v a ds e twelve thirteen =
+    pub walk-put : (a : ℕ) (ds : List ℕ) → F .step s (part text from to) ≡ put a ds
+        → row12 base (length img) a (length ds) ≡ false → row13 base img a (length ds) ≡ false → Walk F text base size (filled base img a ds) (moreData s (length ds)) to
+    walk-put a ds e twelve thirteen =
         record {
           inside = n .high;
           long = fill-length base img (record { addr = a; bytes = ds } ∷ []) (twelve, thirteen, tt) ∙ w .long;
-          rest = sym (rw (twelve, thirteen) refl) ∙ turn (put v a ds) e;
+          rest = sym (rw (twelve, thirteen) refl) ∙ turn (put a ds) e;
         }

@@ -22,8 +22,8 @@ no-stop t f q = let z : _≡_ {A = ℕ} 0 1 = cc in omega arith
 pub record Inductive (step : State → List ℕ → Step) (t : Summary) (P : State → List Line → Plan → Type 0) : Type 0 where
   pub at-skip : (s : State) (l : Line) (ls : List Line) (p : Plan) → step s (l .chars) ≡ skip → P (more s (s .header)) ls p → P s (l ∷ ls) p
   pub at-title : (s : State) (l : Line) (ls : List Line) (p : Plan) (h : List ℕ) → step s (l .chars) ≡ title h → P (more s h) ls p → P s (l ∷ ls) p
-  pub at-put : (s : State) (l : Line) (ls : List Line) (p : Plan) (w a : ℕ) (ds : List ℕ) → step s (l .chars) ≡ put w a ds
-      → P (moreData s w (length ds)) ls p → P s (l ∷ ls) (store (suc (s .number)) (l .place) a ds p)
+  pub at-put : (s : State) (l : Line) (ls : List Line) (p : Plan) (a : ℕ) (ds : List ℕ) → step s (l .chars) ≡ put a ds
+      → P (moreData s (length ds)) ls p → P s (l ∷ ls) (store (suc (s .number)) (l .place) a ds p)
   pub at-finish : (s : State) (l : Line) (e : Entry) → step s (l .chars) ≡ finish e → t ≡ summary s e → P s (l ∷ []) (done t)
 
 module _ (step : State → List ℕ → Step) (t : Summary) (P : State → List Line → Plan → Type 0) (i : Inductive step t P) (size : ℕ) where
@@ -38,8 +38,8 @@ module _ (step : State → List ℕ → Step) (t : Summary) (P : State → List 
   turn l ls s g (refuse f) e q = absurd (no-stop t (located (suc (s .number)) (l .place) f) q)
   turn l ls s g skip e q = i .at-skip s l ls (scan step size (more s (s .header)) ls) e (g (more s (s .header)) q)
   turn l ls s g (title h) e q = i .at-title s l ls (scan step size (more s h) ls) h e (g (more s h) q)
-  turn l ls s g (put w a ds) e q =
-      i .at-put s l ls (scan step size (moreData s w (length ds)) ls) w a ds e (g (moreData s w (length ds)) q)
+  turn l ls s g (put a ds) e q =
+      i .at-put s l ls (scan step size (moreData s (length ds)) ls) a ds e (g (moreData s (length ds)) q)
   turn l [] s g (finish a) e q =
       let m : summary s a ≡ t = cc in rw m (i .at-finish s l a e (sym m))
   turn l (k ∷ ls) s g (finish a) e q = absurd (no-stop t (refusal 2 (suc (suc (s .number))) (k .place)) q)
@@ -61,7 +61,7 @@ counts-step : (step : State → List ℕ → Step) (t : Summary) → Inductive s
 counts-step step t = record {
   at-skip = λ s l ls p e k. record { records-is = k .records-is; cells-is = k .cells-is };
   at-title = λ s l ls p h e k. record { records-is = k .records-is; cells-is = k .cells-is };
-  at-put = λ s l ls p w a ds e k. record { records-is = omega (arith, k .records-is); cells-is = omega (arith, k .cells-is) };
+  at-put = λ s l ls p a ds e k. record { records-is = omega (arith, k .records-is); cells-is = omega (arith, k .cells-is) };
   at-finish = λ s l e q m. rw m (record { records-is = omega arith; cells-is = omega arith });
 }
 

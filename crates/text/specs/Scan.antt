@@ -16,39 +16,37 @@ pub record Fault : Type 0 where
   pub offset : ℕ
   pub want : ℕ
 
--- what one line does: it is refused, it loads nothing, it has the header (`title`), it has data for an address (address bytes,
--- address, data bytes), or it ends the text
+-- what one line does: it is refused, it loads nothing, it has the header (`title`), it has data bytes for an address, or it
+-- ends the text
 pub data Step : Type 0 where
   refuse : Fault → Step
   skip : Step
   title : List ℕ → Step
-  put : ℕ → ℕ → List ℕ → Step
+  put : ℕ → List ℕ → Step
   finish : Entry → Step
 
 -- refused by this row, at the line's first character, with byte 0
 abbrev pub by-row : ℕ → Step
 by-row reason = refuse (record { reason = reason; offset = 0; want = 0 })
 
--- what was read so far: how many lines, the header, how many data lines, their data bytes, and the address bytes of the
--- last of them (0: none yet; where all have one width, also of the first)
+-- what was read so far: how many lines, the header, how many data lines and their data bytes
 pub record State : Type 0 where
   pub number : ℕ
   pub header : List ℕ
   pub records : ℕ
   pub cells : ℕ
-  pub width : ℕ
 
 -- before the first line
 abbrev pub start : State
-start = record { number = 0; header = []; records = 0; cells = 0; width = 0 }
+start = record { number = 0; header = []; records = 0; cells = 0 }
 
 -- the state after one line more, with the header h
 abbrev pub more : State → List ℕ → State
-more s h = record { number = suc (s .number); header = h; records = s .records; cells = s .cells; width = s .width }
+more s h = record { number = suc (s .number); header = h; records = s .records; cells = s .cells }
 
--- the state after one data line more, with w address bytes and n data bytes
-abbrev pub moreData : State → ℕ → ℕ → State
-moreData s w n = record { number = suc (s .number); header = s .header; records = suc (s .records); cells = s .cells + n; width = w }
+-- the state after one data line more, with n data bytes
+abbrev pub moreData : State → ℕ → State
+moreData s n = record { number = suc (s .number); header = s .header; records = suc (s .records); cells = s .cells + n }
 
 -- what a text says beside its cells, where a line behind these ends it
 abbrev pub summary : State → Entry → Summary
@@ -68,7 +66,7 @@ abbrev pub onward : State → ℕ → (State → Plan) → (Entry → Plan) → 
 onward s at go last (refuse f) = stop (located (suc (s .number)) at f)
 onward s at go last skip = go (more s (s .header))
 onward s at go last (title h) = go (more s h)
-onward s at go last (put w a ds) = store (suc (s .number)) at a ds (go (moreData s w (length ds)))
+onward s at go last (put a ds) = store (suc (s .number)) at a ds (go (moreData s (length ds)))
 onward s at go last (finish e) = last e
 
 -- the lines one after the other; row 14: no line ends the text (record: how many were read; place: the text's length, `size`)

@@ -10,16 +10,16 @@ use Rattle.text.specs.declared.Step.the-variants.{Refuse, Pass, Put, Fin
 
 -- the numbers of a state
 abbrev pub numbers : ScanState → State
-numbers s = record { number = s .number; records = s .records; cells = s .cells; width = s .width }
+numbers s = record { number = s .number; records = s .records; cells = s .cells }
 
 -- the state of these numbers and a header
 abbrev pub stateWith : List ℕ → State → ScanState
-stateWith h n = record { number = n .number; header = h; records = n .records; cells = n .cells; width = n .width }
+stateWith h n = record { number = n .number; header = h; records = n .records; cells = n .cells }
 
 -- what a step of the line at a place comes to in numbers, behind a state
 abbrev pub asStep : ℕ → ScanState → ScanStep → Step
 asStep place s (refuse f) = Refuse (f .reason) (place + f .offset) (f .want)
 asStep place s skip = Pass (numbers (more s (s .header)))
 asStep place s (title h) = Pass (numbers (more s h))
-asStep place s (put w a ds) = Put (numbers (moreData s w (length ds))) a (length ds)
+asStep place s (put a ds) = Put (numbers (moreData s (length ds))) a (length ds)
 asStep place s (finish e) = Finish (numbers (more s (s .header))) e

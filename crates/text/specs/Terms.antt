@@ -24,7 +24,7 @@ abbrev pub dataOf : Step → List Run → List Run
 dataOf (refuse f) rs = rs
 dataOf skip rs = rs
 dataOf (title h) rs = rs
-dataOf (put w a ds) rs = record { addr = a; bytes = ds } ∷ rs
+dataOf (put a ds) rs = record { addr = a; bytes = ds } ∷ rs
 dataOf (finish e) rs = rs
 
 -- the data lines among these
@@ -37,7 +37,7 @@ abbrev pub headerIn : Step → List ℕ → List ℕ
 headerIn (refuse f) h = h
 headerIn skip h = h
 headerIn (title ds) h = ds
-headerIn (put w a ds) h = h
+headerIn (put a ds) h = h
 headerIn (finish e) h = h
 
 -- the header among these
@@ -50,7 +50,7 @@ abbrev pub entryIn : Step → Entry → Entry
 entryIn (refuse f) e = e
 entryIn skip e = e
 entryIn (title ds) e = e
-entryIn (put w a ds) e = e
+entryIn (put a ds) e = e
 entryIn (finish a) e = a
 
 -- the entry among these

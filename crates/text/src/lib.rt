@@ -12,13 +12,11 @@ pub enum Found {
     Nothing,
 }
 
-// What was read so far: lines, data lines, their data bytes, and the address bytes of the last of them (0: none yet; by row 9 also of
-// the first).
+// What was read so far: lines, data lines, and their data bytes.
 pub struct State {
     pub number: usize,
     pub records: usize,
     pub cells: usize,
-    pub width: usize,
 }
 
 // What one line does: a row refuses it, at a place of the text and with the checksum that would have been right (0 for none); or it
@@ -39,7 +37,6 @@ pub fn start() -> State
         number: 0,
         records: 0,
         cells: 0,
-        width: 0,
     }
 }
 
@@ -52,19 +49,17 @@ pub fn after_line(state: State) -> State
         number: state.number + 1,
         records: state.records,
         cells: state.cells,
-        width: state.width,
     }
 }
 
-// Behind one data line more, with an address of `width` bytes and `count` data bytes.
-pub fn after_data(state: State, width: usize, count: usize) -> State
+// Behind one data line more, with `count` data bytes.
+pub fn after_data(state: State, count: usize) -> State
     requires { ⌜ (state .number + 1 < 2 ^ 64) × (state .records + 1 < 2 ^ 64) × (state .cells + count < 2 ^ 64) ⌝ }
-    ensures { λ r. ⌜ r ≡ numbers (moreData (stateWith [] state) width count) ⌝ }
+    ensures { λ r. ⌜ r ≡ numbers (moreData (stateWith [] state) count) ⌝ }
 {
     State {
         number: state.number + 1,
         records: state.records + 1,
         cells: state.cells + count,
-        width,
     }
 }

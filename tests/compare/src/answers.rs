@@ -4,7 +4,7 @@
 
 use crate::settings::Settings;
 use crate::tally::Tally;
-use second::cases::{load_case, FULL, SMALL};
+use second::cases::{load_case, FULL, LOAD_NUMBERS, SMALL};
 use second::script::{Case, ROOM};
 use std::env;
 use std::io::Write;
@@ -13,7 +13,7 @@ use std::process::{Command, Stdio};
 
 /// Compares so many drawn texts; the program takes as many as its input holds.
 pub fn drawn(settings: &Settings) -> Result<String, String> {
-    let mut numbers = Tally::of(0..=14);
+    let mut numbers = Tally::of(LOAD_NUMBERS);
     let (mut batch, mut script) = (Vec::new(), Vec::new());
     let mut compared = 0;
     for index in 0..settings.cases {

@@ -25,11 +25,7 @@ impl Content {
     /// The fewest address bytes that hold the entry and all cells.
     pub fn width(&self) -> usize {
         let last_cell = self.span().map_or(0, |(_, end)| end - 1);
-        match last_cell.max(u64::from(self.entry)) {
-            0..=0xFFFF => 2,
-            0x1_0000..=0xFF_FFFF => 3,
-            _ => 4,
-        }
+        width_of(last_cell.max(u64::from(self.entry)))
     }
 
     /// Base and length of a window that holds all cells.
@@ -43,9 +39,11 @@ impl Content {
         (base as u32, (end - base) as usize)
     }
 
-    /// A text of this content: width, cuts, order and style are drawn.
+    /// A text of this content: widths, cuts, order and style are drawn. Without a
+    /// width for all, each record has its own.
     pub fn text(&self, random: &mut Random) -> Vec<u8> {
-        let width = random.size(self.width(), 4);
+        let one_width = random.size(self.width(), 4);
+        let width = random.chance(1, 3).then_some(one_width);
         let mut data = self.data_records(random, width);
         random.shuffle(&mut data);
         let mut records = Vec::new();
@@ -59,20 +57,22 @@ impl Content {
             }
             records.push(data);
         }
+        let width = width.unwrap_or_else(|| random.size(width_of(u64::from(self.entry)), 4));
         let end_kind = b'0' + 11 - width as u8;
         records.push(record(end_kind, width, u64::from(self.entry), &[]));
         styled(random, &records)
     }
 
     /// The cells in pieces of a drawn length, and a few records without data.
-    fn data_records(&self, random: &mut Random, width: usize) -> Vec<Vec<u8>> {
-        let kind = b'0' + width as u8 - 1;
-        let any = random.size(1, 254 - width);
-        let most = random.pick(&[1, 2, 16, 17, 254 - width, any]);
+    fn data_records(&self, random: &mut Random, width: Option<usize>) -> Vec<Vec<u8>> {
+        let longest = 254 - width.unwrap_or(4);
+        let any = random.size(1, longest);
+        let most = random.pick(&[1, 2, 16, 17, longest, any]);
         let mut records = Vec::new();
         for _ in 0..random.pick(&[0, 0, 1, 3]) {
+            let width = width.unwrap_or_else(|| random.size(2, 4));
             let address = random.below(1 << (8 * width));
-            records.push(record(kind, width, address, &[]));
+            records.push(data_record(width, address, &[]));
         }
         let mut piece: Vec<u8> = Vec::new();
         for (&address, &byte) in &self.cells {
@@ -80,11 +80,21 @@ impl Content {
             let joined = self.cells.contains_key(&(address + 1));
             if !joined || piece.len() == most || random.chance(1, 60) {
                 let start = address + 1 - piece.len() as u64;
-                records.push(record(kind, width, start, &piece));
+                let width = width.unwrap_or_else(|| random.size(width_of(address), 4));
+                records.push(data_record(width, start, &piece));
                 piece.clear();
             }
         }
         records
+    }
+}
+
+/// The fewest bytes that hold an address.
+fn width_of(address: u64) -> usize {
+    match address {
+        0..=0xFFFF => 2,
+        0x1_0000..=0xFF_FFFF => 3,
+        _ => 4,
     }
 }
 
@@ -97,6 +107,10 @@ fn spare(random: &mut Random) -> u64 {
         1..=40 => 0,
         _ => near,
     }
+}
+
+fn data_record(width: usize, address: u64, data: &[u8]) -> Vec<u8> {
+    record(b'0' + width as u8 - 1, width, address, data)
 }
 
 fn record(kind: u8, width: usize, address: u64, data: &[u8]) -> Vec<u8> {

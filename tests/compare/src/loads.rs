@@ -4,7 +4,7 @@ use crate::guarded::Guarded;
 use crate::library;
 use crate::settings::Settings;
 use crate::tally::Tally;
-use second::cases::{large_load_cases, load_case, Limits, LoadCase, FULL, SMALL};
+use second::cases::{large_load_cases, load_case, Limits, LoadCase, FULL, LOAD_NUMBERS, SMALL};
 use second::random::Random;
 use second::reading;
 
@@ -17,7 +17,7 @@ pub fn small(settings: &Settings) -> Result<String, String> {
 }
 
 fn drawn(seed: u64, cases: u64, limits: Limits) -> Result<String, String> {
-    let mut numbers = Tally::of(0..=14);
+    let mut numbers = Tally::of(LOAD_NUMBERS);
     for index in 0..cases {
         let case = load_case(seed, index, limits);
         let number = compare(&case, seed ^ index).map_err(|error| {

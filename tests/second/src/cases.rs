@@ -67,6 +67,10 @@ pub const FULL: Limits = Limits {
     long_text: usize::MAX,
 };
 
+/// What a load can answer: 0, or the row that refuses it. Number 9 is reserved
+/// and never given.
+pub const LOAD_NUMBERS: [u32; 14] = [0, 1, 2, 3, 4, 5, 6, 7, 8, 10, 11, 12, 13, 14];
+
 /// What a load case is made for.
 enum Aim {
     Accepted,
@@ -84,7 +88,8 @@ fn aim(index: u64) -> Aim {
     let turn = index / 4;
     match index % 4 {
         0 => match (turn % 15) as u32 {
-            0 => Aim::Accepted,
+            // There is no row 9.
+            0 | 9 => Aim::Accepted,
             1 => Aim::Row1,
             14 => Aim::Row14,
             row => Aim::Faults(Rows::of(&[row])),

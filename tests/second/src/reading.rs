@@ -237,7 +237,6 @@ struct Reader {
     base: u64,
     cells: Vec<Option<u8>>,
     header: Vec<u8>,
-    width: Option<usize>,
     taken: usize,
     data_records: usize,
     entry: Option<u32>,
@@ -245,8 +244,9 @@ struct Reader {
 
 type Row = fn(&Reader, &Record) -> bool;
 
-/// The rows tried for each record, from the top.
-const ROWS: [(u32, Row); 12] = [
+/// The rows tried for each record, from the top. Number 9 is reserved: no row
+/// gives it, as data records and terminators of all widths go together.
+const ROWS: [(u32, Row); 11] = [
     (2, row_2),
     (3, row_3),
     (4, row_4),
@@ -254,7 +254,6 @@ const ROWS: [(u32, Row); 12] = [
     (6, row_6),
     (7, row_7),
     (8, row_8),
-    (9, row_9),
     (10, row_10),
     (11, row_11),
     (12, row_12),
@@ -299,18 +298,12 @@ fn row_8(reader: &Reader, record: &Record) -> bool {
     record.is(Role::Header) && reader.taken > 0
 }
 
-/// A data record or terminator of another width than the first data record.
-fn row_9(reader: &Reader, record: &Record) -> bool {
-    let has_width = record.is(Role::Data) || record.is(Role::Terminator);
-    has_width && reader.width.is_some_and(|width| width != record.width())
-}
-
 /// An S5 with another number than that of the data records before it.
 fn row_10(reader: &Reader, record: &Record) -> bool {
     record.is(Role::Count) && record.address() != reader.data_records as u64
 }
 
-/// Address + data bytes passes what the record's width can address.
+/// Address + data bytes passes what the record's own width can address.
 fn row_11(_: &Reader, record: &Record) -> bool {
     record.is(Role::Data) && record.end() > 1 << (8 * record.width())
 }
@@ -334,7 +327,6 @@ impl Reader {
             base: u64::from(base),
             cells: vec![None; length],
             header: Vec::new(),
-            width: None,
             taken: 0,
             data_records: 0,
             entry: None,
@@ -364,7 +356,6 @@ impl Reader {
             self.header = record.data();
         }
         if record.is(Role::Data) {
-            self.width = Some(record.width());
             self.data_records += 1;
             for (address, byte) in (record.address()..).zip(record.data()) {
                 self.cells[(address - self.base) as usize] = Some(byte);

@@ -2,10 +2,10 @@
 
 use second::cases::{
     aimed_number, aimed_write_number, can_meet, large_load_cases, load_case, write_case, FULL,
-    SMALL,
+    LOAD_NUMBERS, SMALL,
 };
 use second::reading::{load, rows_of_refused_record, write};
-use std::collections::BTreeMap;
+use std::collections::{BTreeMap, BTreeSet};
 
 const CASES: u64 = 50_000;
 
@@ -37,7 +37,9 @@ fn every_load_refusal_and_pair() {
     }
     println!("load refusals: {numbers:?}");
     println!("pairs of rows: {pairs:?}");
-    assert!((0..=14).all(|number| numbers.contains_key(&number)));
+    // Number 9 is not among them.
+    let found: Vec<u32> = numbers.into_keys().collect();
+    assert_eq!(found, LOAD_NUMBERS);
     let all = (2..=13).flat_map(|upper| (upper + 1..=13).map(move |lower| (upper, lower)));
     for (upper, lower) in all {
         let came_up = pairs.contains_key(&(upper, lower));
@@ -113,6 +115,100 @@ fn wrong_counts_of_types_without_data() {
     }
 }
 
+/// The types of the data records and terminators of a text, and whether they
+/// have data.
+fn types(text: &[u8]) -> Vec<(char, bool)> {
+    let lines = text.split(|&c| c == b'\r' || c == b'\n');
+    let typed = lines.filter_map(|line| {
+        let kind = char::from(*line.get(1)?);
+        // Type, count, address and checksum.
+        let least = match kind {
+            '1' | '9' => 10,
+            '2' | '8' => 12,
+            '3' | '7' => 14,
+            _ => return None,
+        };
+        Some((kind, line.len() > least))
+    });
+    typed.collect()
+}
+
+/// Each of the types must have come up so often behind each type of data.
+fn assert_often(pairs: &BTreeMap<(char, char), usize>, types: &str, least: usize) {
+    for kind in "123".chars() {
+        for next in types.chars() {
+            let times = pairs.get(&(kind, next));
+            assert!(times.is_some_and(|&n| n >= least), "S{next} behind S{kind}");
+        }
+    }
+}
+
+/// Among the accepted texts cells of every width must come up behind cells of
+/// every width, and every terminator behind them.
+#[test]
+fn widths_in_accepted_texts() {
+    for limits in [SMALL, FULL] {
+        let mut pairs = BTreeMap::new();
+        let mut all_three = 0;
+        for index in 0..CASES {
+            let mut case = load_case(1, index, limits);
+            let (memory, marks) = (&mut case.memory, &mut case.marks);
+            let refusal = load(&case.text, case.base, memory, marks).refusal;
+            if refusal.number != 0 {
+                continue;
+            }
+            let mut types = types(&case.text);
+            types.retain(|&(kind, has_data)| has_data || kind >= '7');
+            for pair in types.windows(2) {
+                *pairs.entry((pair[0].0, pair[1].0)).or_insert(0) += 1;
+            }
+            let has = |kind| types.contains(&(kind, true));
+            all_three += usize::from(has('1') && has('2') && has('3'));
+        }
+        println!("types and the next: {pairs:?}, all three: {all_three}");
+        assert_often(&pairs, "123789", 100);
+        assert!(all_three >= 100);
+    }
+}
+
+/// Every refusal must come up behind data records of two widths. Row 11 must
+/// come up alone in an S1 and an S2, and with row 12 in an S3, behind every
+/// width: the window has the cells that a wider record would reach.
+#[test]
+fn widths_in_refused_texts() {
+    for limits in [SMALL, FULL] {
+        let (mut mixed, mut pairs) = (BTreeMap::new(), BTreeMap::new());
+        for index in 0..CASES {
+            let mut case = load_case(1, index, limits);
+            let (memory, marks) = (&mut case.memory, &mut case.marks);
+            let refusal = load(&case.text, case.base, memory, marks).refusal;
+            let before = types(&case.text[..refusal.place]);
+            let data: BTreeSet<char> = before
+                .iter()
+                .map(|&(k, _)| k)
+                .filter(|&k| k < '7')
+                .collect();
+            if data.len() >= 2 {
+                *mixed.entry(refusal.number).or_insert(0) += 1;
+            }
+            let rows = rows_of_refused_record(&case.text, case.base, case.memory.len());
+            let own = case.text.get(refusal.place + 1).copied().unwrap_or(0);
+            // No window goes on after the 32-bit addresses.
+            if rows == [11] || own == b'3' && rows == [11, 12] {
+                for kind in data {
+                    *pairs.entry((kind, char::from(own))).or_insert(0) += 1;
+                }
+            }
+        }
+        println!("behind two widths: {mixed:?}; row 11: {pairs:?}");
+        for number in LOAD_NUMBERS.into_iter().filter(|&number| number > 1) {
+            let times = mixed.get(&number);
+            assert!(times.is_some_and(|&n| n >= 20), "row {number}");
+        }
+        assert_often(&pairs, "123", 20);
+    }
+}
+
 /// The least and the largest right checksum must come up in row 7, in each type
 /// that has data or ends the text.
 #[test]
@@ -150,7 +246,9 @@ fn small_cases_are_small_and_reach_all() {
             assert!(case.memory.len() <= 64 && case.marks.len() <= 65);
             *numbers.entry(number).or_insert(0) += 1;
         }
-        assert!((0..=14).all(|number| numbers.get(&number).is_some_and(|&n| n >= 5)));
+        let often = |number| numbers.get(number).is_some_and(|&n| n >= 5);
+        assert!(LOAD_NUMBERS.iter().all(often));
+        assert_eq!(numbers.len(), LOAD_NUMBERS.len());
     }
 }
 

@@ -190,6 +190,22 @@ fn seven_to_zero() {
         ("", 0x5000_0002, 1, 8),
         &format!("{s3}S70550000002A8\n"),
     );
+    // The terminators change places; the largest address decides the width.
+    accepted(
+        "S10B00000706050403020100D8\nS8046000108B\n",
+        ("", 0x60_0010, 1, 8),
+        &format!("{s2}S8046000108B\n"),
+    );
+    accepted(
+        "S20C0000000706050403020100D7\nS70550000002A8\n",
+        ("", 0x5000_0002, 1, 8),
+        &format!("{s3}S70550000002A8\n"),
+    );
+    accepted(
+        "S30D000000000706050403020100D6\nS90320409C\n",
+        ("", 0x2040, 1, 8),
+        &format!("{s1}S90320409C\n"),
+    );
     // With entry 0 they are one text.
     let narrow = format!("{s1}S9030000FC\n");
     for text in [
@@ -197,6 +213,8 @@ fn seven_to_zero() {
         "S20C0000000706050403020100D7\nS804000000FB\n",
         "S30D000000000706050403020100D6\nS70500000000FA\n",
         "S10b00000706050403020100d8\nS9030000fc\n",
+        "S20C0000000706050403020100D7\nS9030000FC\n",
+        "S10B00000706050403020100D8\nS70500000000FA\n",
     ] {
         accepted(text, ("", 0, 1, 8), &narrow);
     }

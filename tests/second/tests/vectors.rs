@@ -22,7 +22,7 @@ fn answers_are_those_worked_out_by_hand() {
 fn script_is_parsed_whole() {
     let script = file("stdin");
     let cases = parse(&script).unwrap();
-    assert!(cases.len() >= 61);
+    assert!(cases.len() >= 68);
     assert_eq!(
         cases.iter().flat_map(Case::script).collect::<Vec<u8>>(),
         script

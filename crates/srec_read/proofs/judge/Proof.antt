@@ -5,9 +5,8 @@ use native.Mathlib.Omega.{arith}
 use mathlib.Core.Bool.{true, false}
 use Rattle.srec.specs.Kinds.{Kind, kindOf, known}
 use Rattle.srec.specs.Kinds.Kind.{Data}
-use Rattle.srec.specs.Judging.{row9}
 use Rattle.srec_read.specs.Records.{widthOr0}
-use Rattle.srec_read.proofs.JudgeLaws.{Sort, sort-of, row-8, passed-s0, row-10, passed-s5, row-9, other, finished, row-11, stored}
+use Rattle.srec_read.proofs.JudgeLaws.{Sort, sort-of, row-8, passed-s0, row-10, passed-s5, finished, row-11, stored}
 use borrow.Author.Needs.{needs}
 use Rattle.srec_read.proofs.judge.Statement.{statement}
 use Rattle.srec_read.proofs.judge.Tie as tie
@@ -25,13 +24,6 @@ module _ (c : tie.After-after-line) where
 
   sorted : Sort (call .args .kind) width kind
   sorted = sort-of (call .args .kind) (call .pre .0)
-
--- behind the tests for S0 and S5 the width is known
-abbrev start : tie.After-width-of → tie.After-after-line
-start c = c .before .before .before
-
-width-at : (c : tie.After-width-of) → width (start c) ≡ c .width-of .result
-width-at c = sym (c .width-of .ensures .0)
 
 returns : tie.Need-returns
 returns c =
@@ -59,51 +51,40 @@ returns-4 c =
 
 returns-5 : tie.Need-returns-5
 returns-5 c =
-    let w = c .before .before in
-    let s = start w in
+    let s = c .before .before .before in
     let a = call s .args in
-    let d : row9 (a .state .width) (width s) ≡ true = rw (width-at w) (sym (c .before .differs .ensures) ∙ c .if5 .taken) in
-    row-9 (a .place) (a .state) (kind s) (a .address) (a .count) _
-    (other (a .place) (a .state) (kind s) (a .address) (a .count) (a .kind) (sorted s) (w .before .before .if1 .left) (w .before .if3 .left)) d
+    rw (s .after-line .ensures) (finished (a .place) (a .state) (kind s) (a .address) (a .count) _ (sorted s .end-is (c .if5 .taken)))
 
--- row 9 does not apply
-one-width : (c : tie.Else5) → let s = start (c .before .before) in row9 (call s .args .state .width) (width s) ≡ false
-one-width c = rw (width-at (c .before .before)) (sym (c .before .differs .ensures) ∙ c .if5 .left)
+-- S1 to S3 are left, and their width is known
+abbrev start : tie.After-width-of → tie.After-after-line
+start c = c .before .before .before .before
 
-returns-6 : tie.Need-returns-6
-returns-6 c =
-    let e = c .before in
-    let s = start (e .before .before) in
-    let a = call s .args in
-    rw (s .after-line .ensures) (finished (a .place) (a .state) (kind s) (a .address) (a .count) _ (sorted s .end-is (c .if6 .taken)) (one-width e))
+width-at : (c : tie.After-width-of) → width (start c) ≡ c .width-of .result
+width-at c = sym (c .width-of .ensures .0)
+
+data-at : (c : tie.After-width-of) → kind (start c) ≡ Data (width (start c))
+data-at c = sorted (start c) .data-is (c .before .before .before .if1 .left) (c .before .before .if3 .left) (c .before .if5 .left)
 
 limit-requires : tie.Need-limit-requires
 limit-requires c κs =
-    let w = c .before .before .before in
-    let t = sorted (start w) in
-    (omega (arith, t .low, width-at w), omega (arith, t .high, width-at w))
+    let t = sorted (start c) in
+    (omega (arith, t .low, width-at c), omega (arith, t .high, width-at c))
 
--- S1 to S3 are left
-data-at : (c : tie.Else6) → let s = start (c .before .before .before) in kind s ≡ Data (width s)
-data-at c = let w = c .before .before .before in sorted (start w) .data-is (w .before .before .if1 .left) (w .before .if3 .left) (c .if6 .left)
+returns-6 : tie.Need-returns-6
+returns-6 c =
+    let w = c .before .before in
+    let s = start w in
+    let a = call s .args in
+    row-11 (a .place) (a .state) (kind s) (a .address) (a .count) _ (data-at w) (rw (width-at w) (rw (c .before .limit .ensures) at (c .if6 .taken)))
 
 returns-7 : tie.Need-returns-7
 returns-7 c =
-    let e = c .before .before in
-    let w = e .before .before .before in
-    let s = start w in
-    let a = call s .args in
-    row-11 (a .place) (a .state) (kind s) (a .address) (a .count) _ (data-at e) (one-width (e .before)) (rw (width-at w) (rw (c .before .limit .ensures) at (c .if7 .taken)))
-
-returns-8 : tie.Need-returns-8
-returns-8 c =
     let at-limit = c .before .before in
-    let e = at-limit .before in
-    let w = e .before .before .before in
+    let w = at-limit .before in
     let s = start w in
     let a = call s .args in
-    rw (c .after-data .ensures, ← (width-at w)) (stored (a .place) (a .state) (kind s) (a .address) (a .count) _ (data-at e) (one-width (e .before))
-    (rw (width-at w) (rw (at-limit .limit .ensures) at (c .before .if7 .left))))
+    rw (c .after-data .ensures) (stored (a .place) (a .state) (kind s) (a .address) (a .count) _ (data-at w)
+    (rw (width-at w) (rw (at-limit .limit .ensures) at (c .before .if6 .left))))
 
 pub judge-spec : {M : Type 1} → statement M
 judge-spec =
@@ -114,12 +95,10 @@ judge-spec =
     returns-2
     returns-3
     returns-4
-    (λ c κs. search needs)
-    (λ c κs. search needs)
     returns-5
-    returns-6
+    (λ c κs. search needs)
     (λ c. search needs)
     limit-requires
-    returns-7
+    returns-6
     (λ c κs. search needs)
-    returns-8)
+    returns-7)

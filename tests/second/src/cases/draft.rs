@@ -79,17 +79,28 @@ pub fn reach(width: usize) -> u64 {
     1 << (8 * width)
 }
 
+pub fn any_width(random: &mut Random) -> usize {
+    random.size(2, 4)
+}
+
 /// The most data bytes of a record of this width.
 pub fn most_data(width: usize) -> usize {
     254 - width
 }
 
-/// A terminator with an entry at one of its width's ends or between them.
-pub fn terminator(random: &mut Random, width: usize) -> Vec<u8> {
+/// A terminator of any width, with an entry at one of the width's ends or
+/// between them.
+pub fn terminator(random: &mut Random) -> Vec<u8> {
+    let width = any_width(random);
     let last = reach(width) - 1;
     let between = random.between(0, last);
     let entry = random.pick(&[0, last, between]);
     Draft::new(end_kind(width), entry, &[]).text()
+}
+
+/// A data record without data at an address of its width.
+pub fn empty_record(width: usize, address: u64) -> Vec<u8> {
+    Draft::new(data_kind(width), address, &[]).text()
 }
 
 pub fn count_record(number: usize) -> Vec<u8> {

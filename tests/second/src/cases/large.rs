@@ -1,6 +1,6 @@
 //! The few cases that need more records than an S5 can count.
 
-use super::draft::{count_record, data_kind, terminator, Draft};
+use super::draft::{any_width, count_record, data_kind, terminator, Draft};
 use super::{in_window, LoadCase, WriteCase};
 use crate::random::Random;
 use crate::reading::canonical;
@@ -12,34 +12,38 @@ const MANY: usize = 65_536;
 pub fn large_load_cases(seed: u64) -> Vec<LoadCase> {
     let random = &mut Random::new(seed, MANY as u64);
     vec![
-        counted(random, 2, MANY - 1, Some(MANY - 1)),
-        counted(random, 3, MANY - 1, Some(MANY - 2)),
-        counted(random, 2, MANY, None),
-        counted(random, 4, MANY, Some(0)),
-        counted(random, 3, MANY, Some(MANY - 1)),
+        counted(random, MANY - 1, Some(MANY - 1)),
+        counted(random, MANY - 1, Some(MANY - 2)),
+        counted(random, MANY, None),
+        counted(random, MANY, Some(0)),
+        counted(random, MANY, Some(MANY - 1)),
         counted_before_the_last(random),
     ]
 }
 
 /// As many records of one cell, followed by the count record if there is one.
-fn counted(random: &mut Random, width: usize, number: usize, count: Option<usize>) -> LoadCase {
-    let mut records = one_cell_records(random, width, number);
+fn counted(random: &mut Random, number: usize, count: Option<usize>) -> LoadCase {
+    let mut records = one_cell_records(random, number);
     records.extend(count.map(count_record));
-    records.push(terminator(random, width));
+    records.push(terminator(random));
     in_window(random, lines(&records), (0, number as u64))
 }
 
 /// An S5 is right before the last of 65,536 data records.
 fn counted_before_the_last(random: &mut Random) -> LoadCase {
-    let mut records = one_cell_records(random, 4, MANY);
+    let mut records = one_cell_records(random, MANY);
     records.insert(MANY - 1, count_record(MANY - 1));
-    records.push(terminator(random, 4));
+    records.push(terminator(random));
     in_window(random, lines(&records), (0, MANY as u64))
 }
 
-fn one_cell_records(random: &mut Random, width: usize, number: usize) -> Vec<Vec<u8>> {
+/// In all widths: each of them reaches 65,536 cells.
+fn one_cell_records(random: &mut Random, number: usize) -> Vec<Vec<u8>> {
     (0..number as u64)
-        .map(|address| Draft::new(data_kind(width), address, &random.bytes(1)).text())
+        .map(|address| {
+            let kind = data_kind(any_width(random));
+            Draft::new(kind, address, &random.bytes(1)).text()
+        })
         .collect()
 }
 

@@ -1,7 +1,7 @@
 //! Cases with no single fault in mind: edges, mutations, odd texts, and
 //! windows that are not allowed.
 
-use super::draft::{count_record, data_kind, end_kind, join, reach, terminator, Draft};
+use super::draft::{any_width, count_record, data_kind, end_kind, join, reach, terminator, Draft};
 use super::{any_window, contents, in_window, valid, Limits, LoadCase, TOP};
 use crate::random::Random;
 
@@ -45,7 +45,6 @@ fn unequal_marks(random: &mut Random, limits: Limits, case: &mut LoadCase) {
 /// Short records near the ends of the window and of the widths.
 pub fn at_edges(random: &mut Random, limits: Limits) -> LoadCase {
     let (low, high) = any_window(random, limits);
-    let width = random.size(2, 4);
     let near = |width: usize, random: &mut Random| {
         let edge = random.pick(&[0, low, low, high, high, reach(2), reach(3), reach(4)]);
         let address = (edge + random.below(5)).saturating_sub(2);
@@ -54,15 +53,15 @@ pub fn at_edges(random: &mut Random, limits: Limits) -> LoadCase {
     let mut records = Vec::new();
     let number = random.size(1, 4);
     for _ in 0..number {
-        let other = random.size(2, 4);
-        let own = random.pick(&[width, width, width, width, width, other]);
+        let width = any_width(random);
         let length = random.size(0, 4);
         let data = random.bytes(length);
-        records.push(Draft::new(data_kind(own), near(own, random), &data).text());
+        records.push(Draft::new(data_kind(width), near(width, random), &data).text());
     }
     if random.chance(1, 3) {
         records.push(count_record(number));
     }
+    let width = any_width(random);
     records.push(Draft::new(end_kind(width), near(width, random), &[]).text());
     let text = join(random, &records);
     in_window(random, text, (low, high))
@@ -151,6 +150,9 @@ const TEXTS: &[&[u8]] = &[
     b"S5030000FC\nS0030000FC\nS9030000FC",
     b"S0030000FC\nS0030000FC\nS9030000FC",
     b"S1030000FC\nS804000000FB",
+    b"S1030000FC\nS204000000FB\nS30500000000FA\nS804000000FB",
+    b"S30500000000FA\nS1030000FC\nS9030000FC",
+    b"S30500000000FA\nS105FFFF1122C9\nS70500000000FA",
     b"S1030000FC\nS5030001FB\nS9030000FC",
     b"S4030000FC\nS9030000FC",
     b"S6030000FC\nS9030000FC",
@@ -173,7 +175,7 @@ pub fn fixed(random: &mut Random, limits: Limits) -> LoadCase {
             1 => longest.push(b'0'),
             _ => {}
         }
-        let end = terminator(random, width);
+        let end = terminator(random);
         join(random, &[longest, end])
     };
     in_window(random, text, window)

@@ -1,14 +1,15 @@
 //! Texts that are accepted, and the same without their terminator.
 
-use super::draft::{count_record, data_kind, join, most_data, reach, terminator, Draft};
+use super::draft::{
+    any_width, count_record, data_kind, empty_record, join, most_data, reach, terminator, Draft,
+};
 use super::{any_window, in_window, Limits, LoadCase};
 use crate::random::Random;
 
 /// A text in any style that fits its window.
 pub fn accepted(random: &mut Random, limits: Limits) -> LoadCase {
     let window = any_window(random, limits);
-    let width = fitting_width(random, window);
-    let records = finished(random, limits, window, width);
+    let records = finished(random, limits, window);
     let text = join(random, &records);
     in_window(random, text, window)
 }
@@ -16,8 +17,7 @@ pub fn accepted(random: &mut Random, limits: Limits) -> LoadCase {
 /// A text that is right but for its missing terminator: row 14.
 pub fn unfinished(random: &mut Random, limits: Limits) -> LoadCase {
     let window = any_window(random, limits);
-    let width = fitting_width(random, window);
-    let mut records = finished(random, limits, window, width);
+    let mut records = finished(random, limits, window);
     records.pop();
     let text = match random.below(8) {
         0 => Vec::new(),
@@ -30,22 +30,30 @@ pub fn unfinished(random: &mut Random, limits: Limits) -> LoadCase {
 /// A width, mostly one that reaches into the window.
 fn fitting_width(random: &mut Random, (low, _): (u64, u64)) -> usize {
     loop {
-        let width = random.size(2, 4);
+        let width = any_width(random);
         if low < reach(width) || random.chance(1, 8) {
             return width;
         }
     }
 }
 
+/// A width that reaches all cells below `end`.
+fn reaching_width(random: &mut Random, end: u64) -> usize {
+    loop {
+        let width = any_width(random);
+        if end <= reach(width) {
+            return width;
+        }
+    }
+}
+
 /// Header, data and count records with the terminator last.
-fn finished(random: &mut Random, limits: Limits, window: (u64, u64), width: usize) -> Vec<Vec<u8>> {
+fn finished(random: &mut Random, limits: Limits, window: (u64, u64)) -> Vec<Vec<u8>> {
+    // One width for all data, or any for each record.
+    let one_width = fitting_width(random, window);
+    let width = random.chance(1, 3).then_some(one_width);
     let mut data = data_records(random, limits, window, width);
     random.shuffle(&mut data);
-    let end_width = if data.is_empty() {
-        random.size(2, 4)
-    } else {
-        width
-    };
     let mut records = Vec::new();
     if random.chance(2, 3) {
         records.push(header(random, limits));
@@ -60,7 +68,7 @@ fn finished(random: &mut Random, limits: Limits, window: (u64, u64), width: usiz
     while random.chance(1, 3) {
         records.push(count_record(data.len()));
     }
-    records.push(terminator(random, end_width));
+    records.push(terminator(random));
     records
 }
 
@@ -81,16 +89,22 @@ fn data_records(
     random: &mut Random,
     limits: Limits,
     (low, high): (u64, u64),
-    width: usize,
+    width: Option<usize>,
 ) -> Vec<Vec<u8>> {
-    let high = high.min(reach(width)).max(low);
+    let high = high.min(reach(width.unwrap_or(4))).max(low);
     let mut cuts = vec![low, high];
+    // A record on each side of the end of a width.
+    if random.chance(1, 2) {
+        let ends = [reach(2), reach(3)];
+        cuts.extend(ends.iter().filter(|&end| (low..high).contains(end)));
+    }
     for _ in 0..random.size(0, limits.records) {
         cuts.push(random.between(low, high));
     }
     cuts.sort_unstable();
     let mut records = Vec::new();
     for piece in cuts.windows(2) {
+        let width = width.unwrap_or_else(|| reaching_width(random, piece[1]));
         let most = limits.data.min(most_data(width)) as u64;
         let length = (piece[1] - piece[0]).min(most);
         let address = random.pick(&[piece[0], piece[1] - length]);
@@ -101,15 +115,16 @@ fn data_records(
     }
     let most_empty = if random.chance(1, 40) { 600 } else { 2 };
     for _ in 0..random.size(0, most_empty) {
-        records.push(empty_record(random, (low, high), width));
+        let width = width.unwrap_or_else(|| any_width(random));
+        records.push(without_data(random, (low, high), width));
     }
     records
 }
 
 /// A data record without data, which may stand anywhere.
-fn empty_record(random: &mut Random, (low, high): (u64, u64), width: usize) -> Vec<u8> {
+fn without_data(random: &mut Random, (low, high): (u64, u64), width: usize) -> Vec<u8> {
     let last = reach(width) - 1;
     let between = random.between(0, last);
     let address = random.pick(&[0, last, low, high, low.saturating_sub(1), between]);
-    Draft::new(data_kind(width), address.min(last), &[]).text()
+    empty_record(width, address.min(last))
 }
