@@ -69,7 +69,8 @@ Told form o r marks = (r ≡ checkedAs o) × MarkedBy form o marks
 tell : (form : Form) (f : Refusal) (o : Outcome) (marks : List ℕ) → refused f ≡ o → Told form o (Refused f) marks
 tell form f o marks e = subst (λ (x : Outcome). Told form x (Refused f) marks) e (refl, tt)
 
-module _ {F : Format} {L : Limits} (laws : Lawful F L) (k : Counting F) {form : Form} {text : List ℕ} {base size : ℕ} {marks : List ℕ} {n : State} {at : ℕ}
+module _ {F : Format} {L : Limits} (laws : Lawful F L)
+    (k : Counting F) {form : Form} {text : List ℕ} {base size : ℕ} {marks : List ℕ} {n : State} {at : ℕ}
     (g : Going F form text base size marks n at) where
   -- the state of the walk: the numbers, and the header so far
   abbrev s : ScanState
@@ -88,7 +89,8 @@ module _ {F : Format} {L : Limits} (laws : Lawful F L) (k : Counting F) {form : 
   tidy-now = image-tidy form (g .img) size (g .walk .long) marks (g .marks-are)
 
   -- no line is left, and none has ended the text
-  pub row-14 : (marks′ : List ℕ) → Nothing ≡ found (lines (F .gap) at (drop at text)) → Told form whole (Refused (refusal 14 (n .number) (length text))) marks′
+  pub row-14 : (marks′ : List ℕ) → Nothing ≡ found (lines (F .gap) at (drop at text))
+      → Told form whole (Refused (refusal 14 (n .number) (length text))) marks′
   row-14 marks′ q = tell form _ whole marks′ (walk-none F text base size (g .img) s at (g .walk) q)
 
   module _ {from to : ℕ} (x : Next (F .gap) text at from to) where
@@ -118,7 +120,8 @@ module _ {F : Format} {L : Limits} (laws : Lawful F L) (k : Counting F) {form : 
       said = step-says F k from (g .header) n chars step q
 
       -- a row of the format
-      pub told-refused : (marks′ : List ℕ) {reason place want : ℕ} → step ≡ Refuse reason place want → Told form whole (Refused (refusalWith reason (n .number + 1) place want)) marks′
+      pub told-refused : (marks′ : List ℕ) {reason place want : ℕ} → step ≡ Refuse reason place want
+          → Told form whole (Refused (refusalWith reason (n .number + 1) place want)) marks′
       told-refused marks′ {reason} {place} {want} e =
           let y : Says from s (Refuse reason place want) (F .step s chars) = subst (λ (z : Step). Says from s z (F .step s chars)) e said in
           let f = y .0 in
@@ -134,7 +137,8 @@ module _ {F : Format} {L : Limits} (laws : Lawful F L) (k : Counting F) {form : 
           refusalOf (Finish m e) = refusal 0 0 0
 
       -- the walk goes on with an image and the numbers of a state
-      going-on : (img : Image) (marks′ : List ℕ) (u : ScanState) (m : State) → stateWith (u .header) m ≡ u → Walk F text base size img u to → marks′ ≡ marksIn form img
+      going-on : (img : Image) (marks′ : List ℕ) (u : ScanState) (m : State) → stateWith (u .header) m ≡ u → Walk F text base size img u to
+          → marks′ ≡ marksIn form img
           → (u .number ≤ to) × (u .records ≤ to) × (u .cells ≤ to) → Going F form text base size marks′ m to
       going-on img marks′ u m e w d h =
           record {
@@ -177,7 +181,8 @@ module _ {F : Format} {L : Limits} (laws : Lawful F L) (k : Counting F) {form : 
                 subst (λ (o : Outcome). Told form o (endedAs m entry []) marks′) p
                 ((λ i. Accepted entry (last-said .1 i .records) (last-said .1 i .cells)), same ∙ g .marks-are)
             go (l ∷ ls) p =
-                subst (λ (i : ℕ). Told form whole (Refused (refusal 2 (suc i) (l .place))) marks′) (ap (λ (u : ScanState). u .number) (sym (last-said .1)))
+                subst (λ (i : ℕ). Told form whole (Refused (refusal 2 (suc i) (l .place))) marks′)
+                (ap (λ (u : ScanState). u .number) (sym (last-said .1)))
                 (tell form _ whole marks′ p)
 
       -- a line with no data for the window
@@ -185,8 +190,10 @@ module _ {F : Format} {L : Limits} (laws : Lawful F L) (k : Counting F) {form : 
       going-pass {m} e =
           let y : Says from s (Pass m) (F .step s chars) = subst (λ (z : Step). Says from s z (F .step s chars)) e said in
           ⊎-elim {C = Going F form text base size marks m to}
-          (λ p. going-on (g .img) marks (more s (s .header)) m (p .1) (walk-skip F text base size (g .img) s at (g .walk) from to x (p .0)) (g .marks-are) (few-more (s .header)))
-          (λ p. going-on (g .img) marks (more s (p .0)) m (p .2) (walk-title F text base size (g .img) s at (g .walk) from to x (p .0) (p .1)) (g .marks-are) (few-more (p .0))) y
+          (λ p. going-on (g .img) marks (more s (s .header)) m (p .1) (walk-skip F text base size (g .img) s at (g .walk) from to x (p .0))
+          (g .marks-are) (few-more (s .header)))
+          (λ p. going-on (g .img) marks (more s (p .0)) m (p .2)
+          (walk-title F text base size (g .img) s at (g .walk) from to x (p .0) (p .1)) (g .marks-are) (few-more (p .0))) y
 
       -- a data line
       module _ {m : State} {a count : ℕ} (e : step ≡ Put m a count) {row : ℕ} (c : row ≡ claimRow base (flags form size marks) a count) where
@@ -210,7 +217,8 @@ module _ {F : Format} {L : Limits} (laws : Lawful F L) (k : Counting F) {form : 
         pub told-claim : (marks′ : List ℕ) → (row ≡ 0 → ⊥) → Told form whole (Refused (refusal row (n .number + 1) from)) marks′
         told-claim marks′ z =
             tell form _ whole marks′ (ap (λ (i : ℕ). refused (refusal row i from)) (add-one (n .number))
-            ∙ sym (claim-refused base (g .img) a ds row (suc (n .number)) from (scan (F .step) (length text) next (lines (F .gap) to (drop to text))) row-is z)
+            ∙ sym (claim-refused base (g .img) a ds row (suc (n .number)) from
+            (scan (F .step) (length text) next (lines (F .gap) to (drop to text))) row-is z)
             ∙ walk-store F text base size (g .img) s at (g .walk) from to x a ds (put-said .1))
 
         -- a line has a character for each data byte
@@ -218,10 +226,12 @@ module _ {F : Format} {L : Limits} (laws : Lawful F L) (k : Counting F) {form : 
         data-fits = k .roomy chars a ds (carried (F .step s chars) (F .part chars) (laws .says s chars) (put a ds) (put-said .1) (λ r. r))
 
         -- its cells are claimed, and the walk goes on
-        pub going-put : (marks′ : List ℕ) → row ≡ 0 → marks′ ≡ stored form (claimed base (flags form size marks) a count) → Going F form text base size marks′ m to
+        pub going-put : (marks′ : List ℕ) → row ≡ 0 → marks′ ≡ stored form (claimed base (flags form size marks) a count)
+            → Going F form text base size marks′ m to
         going-put marks′ z d =
             let granted : 0 ≡ claimRow base (marksOf (g .img)) a (length ds) = sym z ∙ row-is in
-            let free : (row12 base (length (g .img)) a (length ds) ≡ false) × (row13 base (g .img) a (length ds) ≡ false) = claim-granted base (g .img) a ds granted in
+            let free : (row12 base (length (g .img)) a (length ds) ≡ false) × (row13 base (g .img) a (length ds) ≡ false)
+            = claim-granted base (g .img) a ds granted in
             going-on (filled base (g .img) a ds) marks′ next m (put-said .3)
             (walk-put F text base size (g .img) s at (g .walk) from to x a ds (put-said .1) (free .0) (free .1))
             (d ∙ ap (stored form) ((λ i. claimed base (flags-now i) a (put-said .2 i)) ∙ claim-marks base (g .img) a ds granted)) (

@@ -47,7 +47,8 @@ header-fits W text = go (load W (plan srec text))
     go (accepted s img) = omega (arith, length-append (s .header) (replicate (252 - length (s .header)) 0))
 
 -- the write behind a load is given what the load returned and left
-pub written-is : (W : Window) (text : List ℕ) (room : ℕ) (l : Loaded) (m ms : List ℕ) → l ≡ loaded srec W text → m ≡ memoryAfter (W .memory) (load W (plan srec text))
+pub written-is : (W : Window) (text : List ℕ) (room : ℕ) (l : Loaded) (m ms : List ℕ) → l ≡ loaded srec W text
+    → m ≡ memoryAfter (W .memory) (load W (plan srec text))
     → ms ≡ marksAfter (W .marks) (load W (plan srec text))
     → write srec (windowOf (W .base) m ms) (take (l .header .len) (l .header .bytes)) (l .entry) room ≡ writtenAfter srec W text room
 written-is W text room l m ms e₀ e₁ e₂ =
@@ -62,19 +63,22 @@ module _ (W : Window) (text out : List ℕ) where
   pub load-refused : (f : Refusal) → f ≡ loaded srec W text .refusal → (f .reason ≡ 0 → ⊥) → Answers (Refused f) out
   load-refused f e z = go (load W (plan srec text)) e
     where
-      go : (o : Outcome) → f ≡ loadAnswer o .refusal → (Refused f ≡ convertedBy o (writtenAfter srec W text (length out))) × (out ≡ outputBy out o (writtenAfter srec W text (length out)))
+      go : (o : Outcome) → f ≡ loadAnswer o .refusal
+          → (Refused f ≡ convertedBy o (writtenAfter srec W text (length out))) × (out ≡ outputBy out o (writtenAfter srec W text (length out)))
       go (refused g) q = (ap Refused q, refl)
       go (accepted s img) q = absurd (z (ap (λ (x : Refusal). x .reason) q))
 
   module _ (a : Accepted srec W text) (w : WriteOutcome) (is : w ≡ writtenAfter srec W text (length out)) where
     -- behind an accepted load the write decides
-    by-write : (r : Converted) (out′ : List ℕ) → ((s : Summary) (img : Image) → r ≡ convertedBy (accepted s img) w) → out′ ≡ outputAfter out w → Answers r out′
+    by-write : (r : Converted) (out′ : List ℕ) → ((s : Summary) (img : Image) → r ≡ convertedBy (accepted s img) w)
+        → out′ ≡ outputAfter out w → Answers r out′
     by-write r out′ q m =
         let l : (s : Summary) × (img : Image) × (load W (plan srec text) ≡ accepted s img) = accepted-is srec limits lawful W text a in
         (q (l .0) (l .1) ∙ (λ i. convertedBy (sym (l .2) i) (is i)), m ∙ (λ i. outputBy out (sym (l .2) i) (is i)))
 
     -- the write's refusal is the answer
-    pub write-refused : (f : Refusal) (out′ : List ℕ) → f ≡ writeAnswer w .refusal → (f .reason ≡ 0 → ⊥) → out′ ≡ outputAfter out w → Answers (Refused f) out′
+    pub write-refused : (f : Refusal) (out′ : List ℕ) → f ≡ writeAnswer w .refusal → (f .reason ≡ 0 → ⊥) → out′ ≡ outputAfter out w
+        → Answers (Refused f) out′
     write-refused f out′ e z m = by-write (Refused f) out′ (λ s img. go s img w e) m
       where
         go : (s : Summary) (img : Image) (x : WriteOutcome) → f ≡ writeAnswer x .refusal → Refused f ≡ convertedBy (accepted s img) x
@@ -82,9 +86,11 @@ module _ (W : Window) (text out : List ℕ) where
         go s img (wrote t) q = absurd (z (ap (λ (x : Refusal). x .reason) q))
 
     -- the text's length is the answer
-    pub text-written : (n : ℕ) (out′ : List ℕ) → writeAnswer w .refusal .reason ≡ 0 → n ≡ writeAnswer w .length → out′ ≡ outputAfter out w → Answers (Text n) out′
+    pub text-written : (n : ℕ) (out′ : List ℕ) → writeAnswer w .refusal .reason ≡ 0 → n ≡ writeAnswer w .length → out′ ≡ outputAfter out w
+        → Answers (Text n) out′
     text-written n out′ z e m = by-write (Text n) out′ (λ s img. go s img w z e (subst Reasoned (sym is) (write-reasoned _ _ _ (length out) .got))) m
       where
-        go : (s : Summary) (img : Image) (x : WriteOutcome) → writeAnswer x .refusal .reason ≡ 0 → n ≡ writeAnswer x .length → Reasoned x → Text n ≡ convertedBy (accepted s img) x
+        go : (s : Summary) (img : Image) (x : WriteOutcome) → writeAnswer x .refusal .reason ≡ 0 → n ≡ writeAnswer x .length → Reasoned x
+            → Text n ≡ convertedBy (accepted s img) x
         go s img (declined g) q l r = absurd (omega arith)
         go s img (wrote t) q l r = ap Text l

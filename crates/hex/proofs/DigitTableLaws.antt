@@ -64,7 +64,8 @@ value-none : (c : ℕ) → isHex c ≡ false → value c ≡ 0
 unfolding isHex value
 value-none c h =
     by-test (between 48 57 c) (λ e. absurd (never (rw e at h)))
-    (λ e. by-test (between 65 70 c) (λ f. absurd (never (rw (e, f) at h))) (λ f. by-test (between 97 102 c) (λ g. absurd (never (rw (e, f, g) at h))) (λ g. rw (e, f, g))))
+    (λ e. by-test (between 65 70 c) (λ f. absurd (never (rw (e, f) at h)))
+    (λ f. by-test (between 97 102 c) (λ g. absurd (never (rw (e, f, g) at h))) (λ g. rw (e, f, g))))
   where
     never : true ≡ false → ⊥
     never q = let z : _≡_ {A = ℕ} 0 1 = cc in omega arith

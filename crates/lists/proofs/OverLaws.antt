@@ -24,7 +24,8 @@ over-none o at = rw add-zero (take-append-drop at o)
 pub over-more : (o : List ℕ) (at : ℕ) (xs ys : List ℕ) → at + length xs ≤ length o → over (over o at xs) (at + length xs) ys ≡ over o at (xs ++ ys)
 unfolding over
 over-more o at xs ys h =
-    let e : length (take at o ++ xs) ≡ at + length xs = length-append (take at o) xs ∙ ap (λ (n : ℕ). n + length xs) (length-take-le at o (omega arith)) in
+    let e : length (take at o ++ xs) ≡ at + length xs
+    = length-append (take at o) xs ∙ ap (λ (n : ℕ). n + length xs) (length-take-le at o (omega arith)) in
     rw (
       ← (append-assoc (take at o) xs (drop (at + length xs) o)),
       take-at (take at o ++ xs) (drop (at + length xs) o) (at + length xs) e,

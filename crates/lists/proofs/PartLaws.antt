@@ -24,7 +24,8 @@ drop-take (suc i) k (x ∷ l) = let e : suc i + k ≡ suc (i + k) = omega arith 
 pub take-least : (k : ℕ) (l : List ℕ) → take (min k (length l)) l ≡ take k l
 take-least k l =
     by-test (ltb (length l) k)
-    (λ t. let e : min k (length l) ≡ length l = omega (arith, ltb-true (length l) k t) in rw (e, take-all (length l) l (omega arith), take-all k l (omega (arith, ltb-true (length l) k t))))
+    (λ t. let e : min k (length l) ≡ length l = omega (arith, ltb-true (length l) k t) in
+    rw (e, take-all (length l) l (omega arith), take-all k l (omega (arith, ltb-true (length l) k t))))
     (λ t. let e : min k (length l) ≡ k = omega (arith, ltb-false (length l) k t) in rw e)
 
 -- a part of n bytes that is lent has n bytes

@@ -25,7 +25,8 @@ pending-room whole xs ys start at o out h p = omega (arith, p .place, p .same, l
 
 -- the next piece is written
 pub pending-more : (whole xs ys : List ℕ) (start at p : ℕ) (o out out′ : List ℕ) → start + length whole ≤ length o
-    → Pending whole (xs ++ ys) start at o out → p ≡ at + length xs → out′ ≡ over out at xs → length out′ ≡ length out → Pending whole ys start p o out′
+    → Pending whole (xs ++ ys) start at o out → p ≡ at + length xs → out′ ≡ over out at xs → length out′ ≡ length out
+    → Pending whole ys start p o out′
 pending-more whole xs ys start at p o out out′ h d q e n =
     record {
       place = omega (arith, d .place, length-append xs ys);

@@ -102,27 +102,33 @@ module _ (base : ℕ) (memory marks text : List ℕ) {allowed : Bool} (a : allow
     -- the marks that the check leaves are the load's
     marks-are : (marks′ : List ℕ) → marks′ ≡ marksLeft Bytes cleared whole → marks′ ≡ marksAfter marks (outcome base memory marks text)
     marks-are marks′ m =
-        m ∙ marks-bytes cleared whole ∙ marks-number marks cleared whole (ap length clear ∙ length-replicate (length marks) 0) ∙ ap (marksAfter marks) (sym is-placed)
+        m ∙ marks-bytes cleared whole ∙ marks-number marks cleared whole (ap length clear ∙ length-replicate (length marks) 0)
+        ∙ ap (marksAfter marks) (sym is-placed)
 
     -- what the check has accepted can be stored
     pub accepts : (x : Entry) (r c : ℕ) → Accepted x r c ≡ checkedAs whole → Accepts whole
     accepts x r c q = let y : Yes whole x r c = told-yes whole x r c q in record { sum = y .sum; img = y .img; is = y .is }
 
     -- a refusal of the check
-    pub checked-refused : (f : Refusal) (r : Loaded) (marks′ : List ℕ) → Refused f ≡ checkedAs whole → r ≡ loadAnswer (refused f) → marks′ ≡ marksLeft Bytes cleared whole
+    pub checked-refused : (f : Refusal) (r : Loaded) (marks′ : List ℕ) → Refused f ≡ checkedAs whole → r ≡ loadAnswer (refused f)
+        → marks′ ≡ marksLeft Bytes cleared whole
         → Answered memory marks (outcome base memory marks text) r memory marks′
     checked-refused f r marks′ q e m =
         let is : outcome base memory marks text ≡ refused f = is-placed ∙ told-no whole f q in
         (e ∙ ap loadAnswer (sym is), (sym (ap (memoryAfter memory) is), marks-are marks′ m))
 
     -- an accepted text
-    pub checked-accepted : (x : Entry) (r c : ℕ) (marks′ memory′ : List ℕ) (head : Header) → Accepted x r c ≡ checkedAs whole → marks′ ≡ marksLeft Bytes cleared whole
+    pub checked-accepted : (x : Entry) (r c : ℕ) (marks′ memory′ : List ℕ) (head : Header) → Accepted x r c ≡ checkedAs whole
+        → marks′ ≡ marksLeft Bytes cleared whole
         → memory′ ≡ memoryAfter memory whole → head ≡ headerOf (firstHeader (srec .part) (lines isEnd 0 text))
-        → Answered memory marks (outcome base memory marks text) (record { refusal = refusal 0 0 0; header = head; entry = x; records = r; cells = c }) memory′ marks′
+        → Answered memory marks (outcome base memory marks text)
+        (record { refusal = refusal 0 0 0; header = head; entry = x; records = r; cells = c }) memory′ marks′
     checked-accepted x r c marks′ memory′ head q m s d =
         let y : Yes whole x r c = told-yes whole x r c q in
-        let p : PlanAccepted (plan srec text) base (blank (length memory)) (y .sum) (y .img) = placed-inv (plan srec text) base (blank (length memory)) (y .sum) (y .img) (y .is) in
+        let p : PlanAccepted (plan srec text) base (blank (length memory)) (y .sum) (y .img)
+        = placed-inv (plan srec text) base (blank (length memory)) (y .sum) (y .img) (y .is) in
         let hd : head ≡ headerOf (y .sum .header) = d ∙ ap headerOf (sym (content srec limits lawful text (y .sum) (p .ends) .at-first)) in (
-          (λ i. record { refusal = refusal 0 0 0; header = hd i; entry = y .entry i; records = y .records i; cells = y .cells i }) ∙ ap loadAnswer (sym (is-placed ∙ y .is)),
+          (λ i. record { refusal = refusal 0 0 0; header = hd i; entry = y .entry i; records = y .records i; cells = y .cells i })
+              ∙ ap loadAnswer (sym (is-placed ∙ y .is)),
           (s ∙ ap (memoryAfter memory) (sym is-placed), marks-are marks′ m),
         )

@@ -14,7 +14,8 @@ use Rattle.marks.proofs.FormLaws.{flags-bytes, stored-bytes}
 
 -- what `claim` answers, and the marks that it leaves
 abbrev pub Claimed : Form → ℕ → List ℕ → ℕ → ℕ → ℕ → ℕ → List ℕ → Type 0
-Claimed form n ms base a count row ms′ = (row ≡ claimRow base (flags form n ms) a count) × (ms′ ≡ stored form (claimed base (flags form n ms) a count))
+Claimed form n ms base a count row ms′ = (row ≡ claimRow base (flags form n ms) a count) ×
+    (ms′ ≡ stored form (claimed base (flags form n ms) a count))
 
 module _ (form : Form) (n : ℕ) (ms : List ℕ) (t : Tidy form n ms) (base a count : ℕ) where
   -- what the marks say of each cell
@@ -38,13 +39,16 @@ module _ (form : Form) (n : ℕ) (ms : List ℕ) (t : Tidy form n ms) (base a co
   row-12-high z l h = kept 12 (marks.row-12-high base own a count z l (omega (arith, t .0)))
 
   -- row 13: one of the cells is marked already
-  pub row-13 : (count ≡ 0 → ⊥) → base ≤ a → a + count ≤ base + n → isFree (take count (drop (a - base) ms)) ≡ false → Claimed form n ms base a count 13 ms
+  pub row-13 : (count ≡ 0 → ⊥) → base ≤ a → a + count ≤ base + n → isFree (take count (drop (a - base) ms)) ≡ false
+      → Claimed form n ms base a count 13 ms
   row-13 z l h f =
-      kept 13 (marks.row-13 base own a count z l (omega (arith, t .0)) (ap (λ (x : List ℕ). isFree (take count (drop (a - base) x))) (flags-bytes form n ms) ∙ f))
+      kept 13 (marks.row-13 base own a count z l (omega (arith, t .0))
+      (ap (λ (x : List ℕ). isFree (take count (drop (a - base) x))) (flags-bytes form n ms) ∙ f))
 
   -- no row: the cells are free, and they are marked
   pub granted : (count ≡ 0 → ⊥) → base ≤ a → a + count ≤ base + n → isFree (take count (drop (a - base) ms)) ≡ true
       → (ms′ : List ℕ) → ms′ ≡ over ms (a - base) (replicate count 1) → Claimed form n ms base a count 0 ms′
   granted z l h f ms′ e =
-      let r = marks.claim-free base own a count z l (omega (arith, t .0)) (ap (λ (x : List ℕ). isFree (take count (drop (a - base) x))) (flags-bytes form n ms) ∙ f) in
+      let r = marks.claim-free base own a count z l (omega (arith, t .0))
+      (ap (λ (x : List ℕ). isFree (take count (drop (a - base) x))) (flags-bytes form n ms) ∙ f) in
       (r .0, e ∙ ap (λ (x : List ℕ). over x (a - base) (replicate count 1)) (sym (flags-bytes form n ms)) ∙ r .1 ∙ sym (stored-bytes form _))

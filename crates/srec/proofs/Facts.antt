@@ -76,7 +76,8 @@ count-step : (s : State) (r : Read) (x : Step) → judged s r ≡ x → (IsRefus
 unfolding judge row10
 count-step s (bad f) x q n rest k = absurd (n (subst IsRefusal q tt))
 count-step s (good S0 a ds) x q n rest k =
-    by-test (row8 s) (λ b. absurd (n (subst IsRefusal (rw b at q) tt))) (λ b. subst (λ (y : Step). rest (recordsAfter (s .records) y)) (sym (rw b at q)) k)
+    by-test (row8 s) (λ b. absurd (n (subst IsRefusal (rw b at q) tt)))
+    (λ b. subst (λ (y : Step). rest (recordsAfter (s .records) y)) (sym (rw b at q)) k)
 count-step s (good (Data w) a ds) x q n rest k =
     by-test (row11 w a (length ds)) (λ b. absurd (n (subst IsRefusal (rw b at q) tt)))
     (λ b. subst (λ (y : Step). rest (recordsAfter (s .records) y)) (sym (rw b at q)) k)
@@ -115,23 +116,31 @@ rows-of : (lo : ℕ) (rs : List Run) → AllSized follow rs → RisingRuns lo rs
 unfolding follow
 rows-of lo [] g h l = tt
 rows-of lo (r ∷ []) g h l = (record { some = g .0; row = omega (arith, g .1) }, tt, tt)
-rows-of lo (r ∷ q ∷ rs) g h l =
-    (record { some = g .0; row = omega (arith, g .1) }, ⊎-elim (λ k. inl k) (λ k. full k) (l .0), rows-of (r .addr + length (r .bytes)) (q ∷ rs) (g .2) (h .1) (l .1))
+rows-of lo (r ∷ q ∷ rs) g h l = (
+  record { some = g .0; row = omega (arith, g .1) },
+  ⊎-elim (λ k. inl k) (λ k. full k) (l .0),
+  rows-of (r .addr + length (r .bytes))
+      (q ∷ rs) (g .2) (h .1) (l .1),
+)
   where
-    full : length (r .bytes) ≡ suc (15 - r .addr % 16) → (r .addr + length (r .bytes) < q .addr) ⊎ ((r .addr + length (r .bytes) ≡ q .addr) × (q .addr % 16 ≡ 0))
+    full : length (r .bytes) ≡ suc (15 - r .addr % 16)
+        → (r .addr + length (r .bytes) < q .addr) ⊎ ((r .addr + length (r .bytes) ≡ q .addr) × (q .addr % 16 ≡ 0))
     full k =
         by-test (ltb (r .addr + length (r .bytes)) (q .addr)) (λ t. inl (ltb-true (r .addr + length (r .bytes)) (q .addr) t))
-        (λ t. let e : r .addr + length (r .bytes) ≡ q .addr = omega (arith, ltb-false (r .addr + length (r .bytes)) (q .addr) t, h .1 .0) in inr (e, omega (arith, e, k)))
+        (λ t. let e : r .addr + length (r .bytes) ≡ q .addr = omega (arith, ltb-false (r .addr + length (r .bytes)) (q .addr) t, h .1 .0) in
+        inr (e, omega (arith, e, k)))
 
 -- the data records of a window are its marked cells, cut into rows
 pub runs-are-rows : Runs-are-rows
 runs-are-rows W a odd =
     let rising : Rising 0 (shown W) = rising-image (W .base) (image (W .memory) (W .marks)) in
     let same : (A B : ℕ) → Addressed A B (runs follow (shown W)) ↔ In A B (shown W)
-    = λ A B. subst (λ (cs : List Cell). Addressed A B (runs follow (shown W)) ↔ In A B cs) (flat-runs follow (shown W)) (in-flat A B (runs follow (shown W)) .1, in-flat A B (runs follow (shown W)) .0) in
+    = λ A B. subst (λ (cs : List Cell). Addressed A B (runs follow (shown W)) ↔ In A B cs) (flat-runs follow (shown W))
+    (in-flat A B (runs follow (shown W)) .1, in-flat A B (runs follow (shown W)) .0) in
     record {
       cells = λ A B. (λ k. shown-marked W a odd A B .0 (same A B .0 k), λ k. same A B .1 (shown-marked W a odd A B .1 k));
-      rows = rows-of 0 (runs follow (shown W)) (sized-runs follow (shown W)) (rising-runs follow (shown W) rising) (longest-runs follow (shown W) rising);
+      rows = rows-of 0 (runs follow (shown W)) (sized-runs follow (shown W)) (rising-runs follow (shown W) rising)
+          (longest-runs follow (shown W) rising);
     }
 
 -- S5 is written up to 65,535 data records

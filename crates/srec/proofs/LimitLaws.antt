@@ -111,7 +111,17 @@ judge-ok s S0 a ds d l w =
     by-test (row8 s) (λ b. rw b (by s 7 tt)) (λ b. rw b (record { got = (d, eqb-true (s .number) 0 (not-false (eqb (s .number) 0) b)) }))
 judge-ok s (Data w) a ds d l v =
     by-test (row11 w a (length ds)) (λ b. rw b (by s 10 tt))
-    (λ b. rw b (record { got = (d .bytes, omega (arith, ltb-false (2 ^ (8 * w)) (a + length ds) b, pow-mono {i = 8 * w} {j = 32} (omega (arith, v .1)))) }))
+    (λ b. rw b (record {
+      got = (
+        d .bytes,
+        omega (
+          arith,
+          ltb-false (2 ^ (8 * w)) (a + length ds) b,
+          pow-mono {i = 8 * w} {j = 32}
+              (omega (arith, v .1)),
+        ),
+      );
+    }))
 judge-ok s S5 a ds d l w = either (row10 s a) (by s 9 tt) (record { got = tt })
 judge-ok s (End w) a ds d l v = record { got = record { present = refl; small = l } }
 

@@ -70,7 +70,8 @@ module _ (chars : List ℕ) where
       unfolding dataIn
       data-at =
           let e : 2 + 2 * (width k + 1) ≡ 4 + 2 * width k = omega arith in
-          ap (take (count - (width k + 1))) (drop-bytes (width k + 1) (drop 2 chars) ∙ ap bytes (drop-drop (2 * (width k + 1)) 2 chars ∙ ap (λ (i : ℕ). drop i chars) e))
+          ap (take (count - (width k + 1))) (drop-bytes (width k + 1) (drop 2 chars)
+          ∙ ap bytes (drop-drop (2 * (width k + 1)) 2 chars ∙ ap (λ (i : ℕ). drop i chars) e))
           ∙ take-bytes (count - (width k + 1)) (drop (4 + 2 * width k) chars)
 
       -- a record of this kind has its fields
@@ -94,7 +95,8 @@ module _ (chars : List ℕ) where
       let o : ((ltb (length chars) 4 || not (eqb (getD chars 0 0) 83)) ≡ false) × (not (isKnown (kindOf (getD chars 1 0))) ≡ false)
       = or-neither (ltb (length chars) 4 || not (eqb (getD chars 0 0) 83)) (not (isKnown (kindOf (getD chars 1 0)))) four in
       let t : kindOf (getD chars 1 0) ≡ some kind = known-some (kindOf (getD chars 1 0)) (not-false (isKnown (kindOf (getD chars 1 0))) (o .1)) in
-      let s : (length chars ≡ 4 + 2 * count) × (width kind + 1 ≤ count) = row-6-inv (getD chars 1 0) (width kind) (length chars) count (known-kind (getD chars 1 0) kind t) six in
+      let s : (length chars ≡ 4 + 2 * count) × (width kind + 1 ≤ count)
+      = row-6-inv (getD chars 1 0) (width kind) (length chars) count (known-kind (getD chars 1 0) kind t) six in
       fields kind (s .0) (s .1) t
 
 -- a good record has its fields
@@ -131,7 +133,8 @@ pub got : (chars : List ℕ) (place kind a n : ℕ) → Good kind a n ≡ asReco
 got chars place kind a n q = go (read chars) refl
   where
     go : (r : Read) → read chars ≡ r → Got chars kind a n
-    go (bad f) e = absurd (let p : Good kind a n ≡ Bad (f .reason) (place + f .offset) (f .want) = q ∙ ap (asRecord place) e in let z : _≡_ {A = ℕ} 0 1 = cc in omega arith)
+    go (bad f) e = absurd (let p : Good kind a n ≡ Bad (f .reason) (place + f .offset) (f .want) = q ∙ ap (asRecord place) e in
+        let z : _≡_ {A = ℕ} 0 1 = cc in omega arith)
     go (good k b ds) e =
         let p : Good kind a n ≡ Good (typeOf k) b (length ds) = q ∙ ap (asRecord place) e in
         let kind-is : kind ≡ typeOf k = cc in

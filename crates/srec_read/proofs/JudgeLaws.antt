@@ -52,13 +52,45 @@ pub record Sort (c w : ℕ) (k : Kind) : Type 0 where
 -- each kind with 2 to 4 address bytes is the one that its type character stands for
 sort : (k : Kind) (c : ℕ) → typeOf k ≡ c → 2 ≤ width k → width k ≤ 4 → Sort c (width k) k
 sort S0 c e l h =
-    record { s0 = λ q. refl; s5 = λ q. absurd (omega arith); data-is = λ n m q. absurd (n (sym e)); end-is = λ q. absurd (omega arith); low = l; high = h }
+    record {
+      s0 = λ q. refl;
+      s5 = λ q. absurd (omega arith);
+      data-is = λ n m q. absurd (n (sym e));
+      end-is = λ q. absurd
+          (omega arith);
+      low = l;
+      high = h;
+    }
 sort (Data w) c e l h =
-    record { s0 = λ q. absurd (omega arith); s5 = λ q. absurd (omega arith); data-is = λ n m q. refl; end-is = λ q. absurd (omega arith); low = l; high = h }
+    record {
+      s0 = λ q. absurd (omega arith);
+      s5 = λ q. absurd (omega arith);
+      data-is = λ n m q. refl;
+      end-is = λ q. absurd
+          (omega arith);
+      low = l;
+      high = h;
+    }
 sort S5 c e l h =
-    record { s0 = λ q. absurd (omega arith); s5 = λ q. refl; data-is = λ n m q. absurd (m (sym e)); end-is = λ q. absurd (omega arith); low = l; high = h }
+    record {
+      s0 = λ q. absurd (omega arith);
+      s5 = λ q. refl;
+      data-is = λ n m q. absurd (m (sym e));
+      end-is = λ q. absurd
+          (omega arith);
+      low = l;
+      high = h;
+    }
 sort (End w) c e l h =
-    record { s0 = λ q. absurd (omega arith); s5 = λ q. absurd (omega arith); data-is = λ n m q. absurd (omega arith); end-is = λ q. refl; low = l; high = h }
+    record {
+      s0 = λ q. absurd (omega arith);
+      s5 = λ q. absurd (omega arith);
+      data-is = λ n m q. absurd
+          (omega arith);
+      end-is = λ q. refl;
+      low = l;
+      high = h;
+    }
 
 -- what the type character says of a known kind
 pub sort-of : (c : ℕ) → isKnown (kindOf c) ≡ true → Sort c (widthOr0 (kindOf c)) (known (kindOf c))
@@ -135,7 +167,8 @@ module _ (place : ℕ) (n : State) (chars : List ℕ) where
       → r ≡ asStep place (stateWith [] n) (judge (stateWith [] n) (known (kindOf kind)) a (replicate count 0)) → r ≡ whole
   step-good {kind} {a} {count} g r q =
       q ∙ (λ i. asStep place (stateWith [] n) (judge (stateWith [] n) (known (g .known-is i)) a (replicate (sym (g .len) i) 0)))
-      ∙ judge-numbers place (stateWith [] n) (g .k) a (g .ds) ∙ ap (λ (x : Read). asStep place (stateWith [] n) (judged (stateWith [] n) x)) (sym (g .is))
+      ∙ judge-numbers place (stateWith [] n) (g .k) a (g .ds)
+      ∙ ap (λ (x : Read). asStep place (stateWith [] n) (judged (stateWith [] n) x)) (sym (g .is))
 
   -- a record that cannot be read is refused where its row says
   pub step-bad : (reason at want : ℕ) → Bad reason at want ≡ asRecord place (read chars) → Refuse reason at want ≡ whole

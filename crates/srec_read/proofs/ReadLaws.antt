@@ -60,7 +60,8 @@ module _ (chars : List ℕ) where
 
     -- rows 5 to 7 are left
     left : read chars ≡ cond (row5 chars) (fault 5 (2 + firstBad (drop 2 chars)))
-        (cond (row6 k (length chars) (count chars)) (fault 6 0) (cond (row7 (bs chars)) (mismatch (bs chars)) (good k (addressIn k (bs chars)) (dataIn k (bs chars)))))
+        (cond (row6 k (length chars) (count chars)) (fault 6 0)
+        (cond (row7 (bs chars)) (mismatch (bs chars)) (good k (addressIn k (bs chars)) (dataIn k (bs chars)))))
     unfolding read row3 row4
     left = rw (le-ltb 514 (length chars) (h .short), le-ltb (length chars) 4 (h .four), eq-eqb (getD chars 0 0) 83 (h .letter), h .type-known .is)
 
@@ -111,7 +112,8 @@ module _ (chars : List ℕ) (w n : ℕ) (z : Sized chars w n) where
       ∙ rw (getD-drop, getD-drop, add-assoc)
 
   -- row 7 alone is left
-  left-seven : read chars ≡ cond (not (eqb given wanted)) (bad (record { reason = 7; offset = 0; want = wanted })) (good v (addressIn v all) (dataIn v all))
+  left-seven : read chars ≡ cond (not (eqb given wanted)) (bad (record { reason = 7; offset = 0; want = wanted }))
+      (good v (addressIn v all) (dataIn v all))
   unfolding row5 row7 right checksum
   left-seven =
       let six : row6 (known (kindOf (getD chars 1 0))) (length chars) (count chars) ≡ false

@@ -52,7 +52,8 @@ measured-start base memory marks entry i q =
     = from-next base memory marks 0 i q ∙ from-zero base memory marks in
     record { all-records = rw e (zero-add _); all-cells = rw e (zero-add _); the-largest = rw e }
 
-module _ (base : ℕ) (memory marks : List ℕ) (i j : ℕ) (e : length memory ≡ length marks) (h : i < length marks) (g : unmarked (drop i marks) ≡ 0) (q : EndsAt follow base marks i j) where
+module _ (base : ℕ) (memory marks : List ℕ) (i j : ℕ) (e : length memory ≡ length marks) (h : i < length marks)
+    (g : unmarked (drop i marks) ≡ 0) (q : EndsAt follow base marks i j) where
   -- the cells from a marked cell on: those of its run, and those behind it
   cells-at : cellsFrom base memory marks i ≡ cellsOf (runAt base memory i j) ++ cellsFrom base memory marks j
   cells-at =
@@ -72,9 +73,18 @@ module _ (base : ℕ) (memory marks : List ℕ) (i j : ℕ) (e : length memory �
       record {
         all-records = rw f (omega (arith, m .all-records, ap length (runs-at follow base memory marks i j e h g q)));
         all-cells = rw f
-            (omega (arith, b .0, m .all-cells, ap length cells-at ∙ length-append (cells (base + i) (map some own)) (cellsFrom base memory marks j), length-cells (base + i) own, l));
+            (omega (
+              arith,
+              b .0,
+              m .all-cells,
+              ap length cells-at
+                  ∙ length-append (cells (base + i) (map some own)) (cellsFrom base memory marks j),
+              length-cells (base + i) own,
+              l,
+            ));
         the-largest = rw (f, ← last)
-            (sym (ap (largest top) cells-at ∙ largest-behind top (base + i) (j - i - 1) own (cellsFrom base memory marks j) (omega (arith, b .0, l))) ∙ m .the-largest);
+            (sym (ap (largest top) cells-at ∙ largest-behind top (base + i) (j - i - 1) own (cellsFrom base memory marks j)
+            (omega (arith, b .0, l))) ∙ m .the-largest);
       }
 
 -- behind the last run all is counted: the return of `size_of`

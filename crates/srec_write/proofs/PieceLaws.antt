@@ -37,13 +37,15 @@ data-before w [] rest = refl
 data-before w (r ∷ rs) rest =
     let own = lineOf (47 + w) w (r .addr) (r .bytes) in
     line-before (Data w) (r .addr) (r .bytes) (dataLines (dataLine w) rs rest) ∙ ap (λ (l : List ℕ). own ++ l) (data-before w rs rest)
-    ∙ sym (append-assoc own (dataLines (dataLine w) rs []) rest) ∙ ap (λ (l : List ℕ). l ++ rest) (sym (line-before (Data w) (r .addr) (r .bytes) (dataLines (dataLine w) rs [])))
+    ∙ sym (append-assoc own (dataLines (dataLine w) rs []) rest)
+    ∙ ap (λ (l : List ℕ). l ++ rest) (sym (line-before (Data w) (r .addr) (r .bytes) (dataLines (dataLine w) rs [])))
 
 -- and so is S5, if it is written
 pub count-before : (n : ℕ) (rest : List ℕ) → countLine n rest ≡ countLine n [] ++ rest
 unfolding countLine
 count-before n rest =
-    by-test (leb n 65535) (λ e. rw e (line-before S5 n [] rest ∙ ap (λ (l : List ℕ). l ++ rest) (sym (append-nil (lineOf 53 2 n [])) ∙ sym (line-before S5 n [] []))))
+    by-test (leb n 65535) (λ e. rw e (line-before S5 n [] rest
+    ∙ ap (λ (l : List ℕ). l ++ rest) (sym (append-nil (lineOf 53 2 n [])) ∙ sym (line-before S5 n [] []))))
     (λ e. rw e)
 
 -- S5 is written, or left out: the returns of `put_count`
@@ -95,7 +97,8 @@ module _ (base : ℕ) (memory marks : List ℕ) (w : ℕ) (e : length memory ≡
 
   -- before the first run
   pub data-start : (i start : ℕ) (o : List ℕ) → NextAt marks 0 i → Pending all (rest i) start start o o
-  data-start i start o q = pending-start all (rest i) start o (ap (dataText w) (sym (from-next base memory marks 0 i q ∙ from-zero base memory marks)))
+  data-start i start o q = pending-start all (rest i) start o
+      (ap (dataText w) (sym (from-next base memory marks 0 i q ∙ from-zero base memory marks)))
 
   module _ (i j : ℕ) (h : i < length marks) (g : unmarked (drop i marks) ≡ 0) (q : EndsAt follow base marks i j) (start at : ℕ) (o out : List ℕ)
       (fits : start + length all ≤ length o) (d : Pending all (rest i) start at o out) where
@@ -113,7 +116,8 @@ module _ (base : ℕ) (memory marks : List ℕ) (w : ℕ) (e : length memory ≡
 
     -- it has room: what `put_line` requires in `put_cells`
     pub data-room : at + (7 + 2 * w + 2 * length own) ≤ length out
-    data-room = line-room all (47 + w) w (base + i) own (rest (j + unmarked (drop j marks))) start at o out fits (next (j + unmarked (drop j marks)) refl)
+    data-room = line-room all (47 + w) w (base + i) own (rest (j + unmarked (drop j marks))) start at o out fits
+        (next (j + unmarked (drop j marks)) refl)
 
     -- it is written: a turn of `put_cells`
     pub data-more : (n p : ℕ) (out′ : List ℕ) → NextAt marks j n → p ≡ at + (7 + 2 * w + 2 * length own)

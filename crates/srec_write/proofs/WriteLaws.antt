@@ -120,5 +120,8 @@ module _ (k : Call) where
   -- an accepted write's answer, and the output behind it
   pub accepts : (text : List ℕ) (r : Written) (o out : List ℕ) (need : ℕ) → outcome ≡ wrote text → need ≡ length text
       → r ≡ record { refusal = refusal 0 0 0; length = need } → out ≡ over o 0 text → (r ≡ writeAnswer outcome) × (out ≡ outputAfter o outcome)
-  accepts text r o out need q n a t =
-      (a ∙ ap (λ (j : ℕ). record { refusal = refusal 0 0 0; length = j }) n ∙ sym (ap writeAnswer q), t ∙ over-start o text ∙ sym (ap (outputAfter o) q))
+  accepts text r o out need q n a t = (
+    a ∙ ap (λ (j : ℕ). record { refusal = refusal 0 0 0; length = j }) n ∙ sym (ap writeAnswer q),
+    t ∙ over-start o text
+        ∙ sym (ap (outputAfter o) q),
+  )

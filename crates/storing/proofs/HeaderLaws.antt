@@ -44,7 +44,8 @@ no-header : (chars : List ℕ) → headerIn (carried (read chars)) [] ≡ [] →
 no-header chars e = rw e refl
 
 -- a record that cannot be read has no header
-pub header-bad : (chars : List ℕ) (place reason at want : ℕ) → Bad reason at want ≡ asRecord place (read chars) → headerOf [] ≡ headerOf (headerIn (carried (read chars)) [])
+pub header-bad : (chars : List ℕ) (place reason at want : ℕ) → Bad reason at want ≡ asRecord place (read chars)
+    → headerOf [] ≡ headerOf (headerIn (carried (read chars)) [])
 header-bad chars place reason at want q = no-header chars (go (read chars) q)
   where
     go : (r : Read) → Bad reason at want ≡ asRecord place r → headerIn (carried r) [] ≡ []
@@ -52,7 +53,8 @@ header-bad chars place reason at want q = no-header chars (go (read chars) q)
     go (bad f) e = refl
 
 -- nor has a record of another type
-pub header-other : (chars : List ℕ) (kind a n : ℕ) → Got chars kind a n → (kind ≡ 48 → ⊥) → headerOf [] ≡ headerOf (headerIn (carried (read chars)) [])
+pub header-other : (chars : List ℕ) (kind a n : ℕ) → Got chars kind a n → (kind ≡ 48 → ⊥)
+    → headerOf [] ≡ headerOf (headerIn (carried (read chars)) [])
 unfolding kindOf
 header-other chars kind a n r h = no-header chars (ap (λ (x : Read). headerIn (carried x) []) (r .is) ∙ go (r .k) (r .known-is))
   where
@@ -64,7 +66,8 @@ header-other chars kind a n r h = no-header chars (ap (λ (x : Read). headerIn (
 
 -- the data of an S0 is its header
 pub header-s0 : (chars : List ℕ) (kind a n : ℕ) → Got chars kind a n → kind ≡ 48 → (bs : List ℕ)
-    → bs ≡ bytes (take (2 * length (take n zeros)) (drop 8 chars)) → record { len = n; bytes = bs ++ drop n zeros } ≡ headerOf (headerIn (carried (read chars)) [])
+    → bs ≡ bytes (take (2 * length (take n zeros)) (drop 8 chars))
+    → record { len = n; bytes = bs ++ drop n zeros } ≡ headerOf (headerIn (carried (read chars)) [])
 unfolding kindOf
 header-s0 chars kind a n r c bs q =
     let k : r .k ≡ S0 = same (sym (r .known-is) ∙ ap kindOf c) in

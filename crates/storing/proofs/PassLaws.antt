@@ -61,7 +61,8 @@ pub storing-inside : (F : Format) (text : List ℕ) (base : ℕ) (m₀ m : List 
 storing-inside F text base m₀ m at (inl g) = g .walk .inside
 storing-inside F text base m₀ m at (inr g) = g .inside
 
-module _ (F : Format) (L : Limits) (laws : Lawful F L) (text : List ℕ) (base : ℕ) (m₀ : List ℕ) (acc : Accepts (placed base (blank (length m₀)) (plan F text))) where
+module _ (F : Format) (L : Limits) (laws : Lawful F L) (text : List ℕ) (base : ℕ) (m₀ : List ℕ)
+    (acc : Accepts (placed base (blank (length m₀)) (plan F text))) where
   -- what the whole text comes to
   abbrev whole : Outcome
   whole = placed base (blank (length m₀)) (plan F text)
@@ -71,7 +72,8 @@ module _ (F : Format) (L : Limits) (laws : Lawful F L) (text : List ℕ) (base :
   never p = let q : refused _ ≡ accepted (acc .sum) (acc .img) = p ∙ acc .is in let z : _≡_ {A = ℕ} 0 1 = cc in omega arith
 
   -- at the end of the text
-  pub storing-end : (m : List ℕ) (at : ℕ) → Storing F text base m₀ m at → Nothing ≡ found (lines (F .gap) at (drop at text)) → m ≡ memoryAfter m₀ whole
+  pub storing-end : (m : List ℕ) (at : ℕ) → Storing F text base m₀ m at → Nothing ≡ found (lines (F .gap) at (drop at text))
+      → m ≡ memoryAfter m₀ whole
   storing-end m at (inl g) q = absurd (never (walk-none F text base (length m₀) (g .img) (g .s) at (g .walk) q))
   storing-end m at (inr g) q = g .memory-is
 
@@ -98,7 +100,8 @@ module _ (F : Format) (L : Limits) (laws : Lawful F L) (text : List ℕ) (base :
     put-on a ds e =
         let u : State = moreData (g .s) (length ds) in
         let rest : Plan = scan (F .step) (length text) u (lines (F .gap) to (drop to text)) in
-        let st : placed base (g .img) (store (suc (g .s .number)) from a ds rest) ≡ whole = walk-store F text base (length m₀) (g .img) (g .s) at (g .walk) from to x a ds e in
+        let st : placed base (g .img) (store (suc (g .s .number)) from a ds rest) ≡ whole
+        = walk-store F text base (length m₀) (g .img) (g .s) at (g .walk) from to x a ds e in
         by-test (row12 base (length (g .img)) a (length ds)) (λ t. absurd (never (rw t at st)))
         (λ t. by-test (row13 base (g .img) a (length ds)) (λ v. absurd (never (rw (t, v) at st)))
         (λ v. record {
@@ -107,7 +110,8 @@ module _ (F : Format) (L : Limits) (laws : Lawful F L) (text : List ℕ) (base :
             img = filled base (g .img) a ds;
             s = u;
             walk = walk-put F text base (length m₀) (g .img) (g .s) at (g .walk) from to x a ds e t v;
-            memory-is = q ∙ ap (λ (y : List ℕ). over y (a - base) ds) (g .memory-is) ∙ sym (overlaid-filled m₀ base (g .img) a ds (sym (g .walk .long)) t);
+            memory-is = q ∙ ap (λ (y : List ℕ). over y (a - base) ds) (g .memory-is)
+                ∙ sym (overlaid-filled m₀ base (g .img) a ds (sym (g .walk .long)) t);
           });
         }))
 
@@ -115,15 +119,24 @@ module _ (F : Format) (L : Limits) (laws : Lawful F L) (text : List ℕ) (base :
     end-on : (a : Entry) → F .step (g .s) chars ≡ finish a → (m′ : List ℕ) → m′ ≡ m → Storing F text base m₀ m′ to
     end-on a e m′ q = go (lines (F .gap) to (drop to text)) refl (walk-ended F text base (length m₀) (g .img) (g .s) at (g .walk) from to x a e)
       where
-        go : (ls : List Line) → lines (F .gap) to (drop to text) ≡ ls → placed base (g .img) (ended (g .s) a ls) ≡ whole → Storing F text base m₀ m′ to
+        go : (ls : List Line) → lines (F .gap) to (drop to text) ≡ ls → placed base (g .img) (ended (g .s) a ls) ≡ whole
+            → Storing F text base m₀ m′ to
         go [] p z = inr (record { inside = x .high; none-left = p; memory-is = q ∙ g .memory-is ∙ ap (memoryAfter m₀) z })
         go (l ∷ ls) p z = absurd (never z)
 
     -- each step that the line may take can be stored, and the pass goes on behind it
     turned : (y : Step) → F .step (g .s) chars ≡ y → Turn m to y
     turned (refuse f) e = absurd (not-refused f e)
-    turned skip e = record { placeable = tt; goes-on = on (more (g .s) (g .s .header)) (walk-skip F text base (length m₀) (g .img) (g .s) at (g .walk) from to x e) }
-    turned (title h) e = record { placeable = tt; goes-on = on (more (g .s) h) (walk-title F text base (length m₀) (g .img) (g .s) at (g .walk) from to x h e) }
+    turned skip e = record {
+      placeable = tt;
+      goes-on = on (more (g .s) (g .s .header))
+          (walk-skip F text base (length m₀) (g .img) (g .s) at (g .walk) from to x e);
+    }
+    turned (title h) e = record {
+      placeable = tt;
+      goes-on = on (more (g .s) h)
+          (walk-title F text base (length m₀) (g .img) (g .s) at (g .walk) from to x h e);
+    }
     turned (put a ds) e = put-on a ds e
     turned (finish a) e = record { placeable = tt; goes-on = end-on a e }
 
@@ -141,7 +154,8 @@ module _ (F : Format) (L : Limits) (laws : Lawful F L) (text : List ℕ) (base :
         ⊎-elim {C = F .step (g .s) chars ≡ F .part chars} (λ r. absurd (no-refusal (F .step (g .s) chars) refl r)) (λ q. q) (laws .says (g .s) chars)
 
   -- one turn of the loop: the line can be stored, and what it leaves goes on
-  pub storing-turn : (m : List ℕ) (at from to : ℕ) → Storing F text base m₀ m at → (x : Next (F .gap) text at from to) → Turn m to (F .part (part text from to))
+  pub storing-turn : (m : List ℕ) (at from to : ℕ) → Storing F text base m₀ m at → (x : Next (F .gap) text at from to)
+      → Turn m to (F .part (part text from to))
   storing-turn m at from to (inl g) x =
       subst (Turn m to) (step-is m at from to x g) (turned m at from to x g (F .step (g .s) (part text from to)) refl)
   storing-turn m at from to (inr g) x = absurd (none (sym (g .none-left) ∙ x .is))

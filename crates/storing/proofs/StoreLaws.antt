@@ -65,7 +65,8 @@ pub no-data : (m chars : List ℕ) (base size : ℕ) → Readable chars base siz
     → m ≡ storedBy base m (carried (read chars))
 no-data m chars base size r h = go (r .k) (r .is) (r .char) (r .low) (r .high)
   where
-    go : (k : Kind) → read chars ≡ good k (r .a) (r .ds) → typeOf k ≡ getD chars 1 0 → 2 ≤ width k → width k ≤ 4 → m ≡ storedBy base m (carried (read chars))
+    go : (k : Kind) → read chars ≡ good k (r .a) (r .ds) → typeOf k ≡ getD chars 1 0 → 2 ≤ width k → width k ≤ 4
+        → m ≡ storedBy base m (carried (read chars))
     go S0 e c l u = rw e refl
     go (Data w) e c l u = absurd (⊎-elim (λ x. omega (arith, x, c)) (λ x. omega (arith, x, c)) h)
     go S5 e c l u = rw e refl

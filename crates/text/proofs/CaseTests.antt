@@ -111,7 +111,8 @@ sameTest false b = not b
 -- cells, header and entry keep to a format's limits
 abbrev pub isStorable : Limits → List Cell → List ℕ → Entry → Bool
 isStorable L cs h e =
-    (isRising 0 cs && allSmall (L .top) cs) && ((allBytes h && leb (length h) (L .most)) && (sameTest (isPresent e) (L .started) && ltb (addressOf e) (2 ^ 32)))
+    (isRising 0 cs && allSmall (L .top) cs) && ((allBytes h && leb (length h) (L .most)) &&
+    (sameTest (isPresent e) (L .started) && ltb (addressOf e) (2 ^ 32)))
 
 -- a write is refused so
 abbrev pub isDeclined : Refusal → WriteOutcome → Bool

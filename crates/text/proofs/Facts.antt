@@ -31,7 +31,8 @@ next : (base i : ℕ) → suc base + i ≡ base + suc i
 next base i = omega arith
 
 -- a cell that was given nothing has no mark, and keeps its byte
-untouched : (base : ℕ) (memory : List ℕ) (img : Image) (i : ℕ) → length memory ≡ length img → i < length memory → ((B : ℕ) → In (base + i) B (cells base img) → ⊥)
+untouched : (base : ℕ) (memory : List ℕ) (img : Image) (i : ℕ) → length memory ≡ length img → i < length memory
+    → ((B : ℕ) → In (base + i) B (cells base img) → ⊥)
     → (getD (marksOf img) i 0 ≡ 0) × (getD (overlaid memory img) i 0 ≡ getD memory i 0)
 untouched base [] img i h l n = absurd (omega arith)
 untouched base (x ∷ memory) [] i h l n = absurd (omega arith)
@@ -40,7 +41,8 @@ untouched base (x ∷ memory) (some b ∷ img) zero h l n = absurd (n b (inl (om
 untouched base (x ∷ memory) (none ∷ img) (suc i) h l n =
     untouched (suc base) memory img i (omega arith) (omega arith) (λ B k. n B (subst (λ (a : ℕ). In a B (cells (suc base) img)) (next base i) k))
 untouched base (x ∷ memory) (some b ∷ img) (suc i) h l n =
-    untouched (suc base) memory img i (omega arith) (omega arith) (λ B k. n B (inr (subst (λ (a : ℕ). In a B (cells (suc base) img)) (next base i) k)))
+    untouched (suc base) memory img i (omega arith) (omega arith)
+    (λ B k. n B (inr (subst (λ (a : ℕ). In a B (cells (suc base) img)) (next base i) k)))
 
 module _ (F : Format) (L : Limits) (laws : Lawful F L) where
   -- an accepted load leaves the cells, the header and the entry of its text, and every other byte as it was

@@ -89,7 +89,8 @@ module _ (gap : ℕ → Bool) where
     one-line : from < length text → lines gap at (drop at text) ≡ record { place = from; chars = part text from to } ∷ lines gap to (drop to text)
     one-line h =
         skipped ∙ pushed from (front gap (drop from text)) (behind gap from (drop from text)) (some-char h)
-        ∙ (λ i. record { place = from; chars = chars-are i } ∷ (behind-front from (drop from text) ∙ ap (lines gap to) (drop-drop (length (front gap (drop from text))) from text)) i)
+        ∙ (λ i. record { place = from; chars = chars-are i } ∷
+        (behind-front from (drop from text) ∙ ap (lines gap to) (drop-drop (length (front gap (drop from text))) from text)) i)
 
     -- ---- the two answers of `next_line`
 
@@ -128,7 +129,8 @@ module _ (gap : ℕ → Bool) where
             low = omega (arith, p);
             some-chars = omega (arith, p, r, some-char text at h);
             high = omega (arith, r, shorter (drop (from text at) text), length-drop (from text at) text);
-            is = one-line text at h ∙ (λ i. record { place = sym p i; chars = part text (sym p i) (sym r i) } ∷ lines gap (sym r i) (drop (sym r i) text));
+            is = one-line text at h ∙ (λ i. record { place = sym p i; chars = part text (sym p i) (sym r i) } ∷ lines gap (sym r i)
+                (drop (sym r i) text));
           }
 
   -- it has found nothing: no line is left

@@ -174,7 +174,8 @@ Reasoned L (accepted s img) = Unit {0}
 pub placed-reasoned : (L : Limits) → Shared L → (p : Plan) (base : ℕ) (img : Image) → PlanOk L p → Of (Reasoned L) (placed base img p)
 placed-reasoned L shared (store n at a ds p) base img h =
     either (row12 base (length img) a (length ds)) (record { got = (lit< tt, shared .twelve) })
-    (either (row13 base img a (length ds)) (record { got = (lit< tt, shared .thirteen) }) (placed-reasoned L shared p base (filled base img a ds) (h .2)))
+    (either (row13 base img a (length ds)) (record { got = (lit< tt, shared .thirteen) })
+    (placed-reasoned L shared p base (filled base img a ds) (h .2)))
 placed-reasoned L shared (stop f) base img h = record { got = h }
 placed-reasoned L shared (done s) base img h = record { got = tt }
 

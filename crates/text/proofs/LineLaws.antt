@@ -22,7 +22,8 @@ module _ (gap : ℕ → Bool) where
   front-free x (y ∷ xs) rest g h = rw (h .0, front-free x xs rest g (h .1))
 
   -- the lines behind that stretch are those of the rest
-  behind-free : (x : ℕ) (xs rest : List ℕ) (at : ℕ) → gap x ≡ true → Free xs → behind gap at (xs ++ (x ∷ rest)) ≡ lines gap (at + suc (length xs)) rest
+  behind-free : (x : ℕ) (xs rest : List ℕ) (at : ℕ) → gap x ≡ true → Free xs
+      → behind gap at (xs ++ (x ∷ rest)) ≡ lines gap (at + suc (length xs)) rest
   behind-free x [] rest at g h = rw (g, add-suc at 0, add-zero at)
   behind-free x (y ∷ xs) rest at g h =
       rw (h .0, behind-free x xs rest (suc at) g (h .1), suc-add at (suc (length xs)), ← (add-suc at (suc (length xs))))

@@ -73,7 +73,8 @@ module _ (t : List ℕ) where
   write-room F W h e room q =
       by-test (row1 W) (λ z. absurd (never (refusal 1 0 0) (rw z at q)))
       (λ z. by-test (row17 (textOf F W h e) room)
-      (λ y. absurd (never (refusal 17 0 (length (textOf F W h e))) (tried-inv (F .rows W h e) (declined (refusal 17 0 (length (textOf F W h e)))) (rw (z, y) at q))))
+      (λ y. absurd (never (refusal 17 0 (length (textOf F W h e)))
+      (tried-inv (F .rows W h e) (declined (refusal 17 0 (length (textOf F W h e)))) (rw (z, y) at q))))
       (λ y. y))
 
 -- rows of which none applies change nothing
@@ -145,7 +146,8 @@ module _ (F : Format) (L : Limits) (laws : Lawful F L) where
   load-reasoned : (W : Window) (text : List ℕ) → Of (Reasoned L) (load W (plan F text))
   unfolding load
   load-reasoned W text =
-      either (row1 W) (record { got = (lit< tt, laws .shared .one) }) (placed-reasoned L (laws .shared) (plan F text) (W .base) (blank (length (W .memory))) (plan-ok F L laws text))
+      either (row1 W) (record { got = (lit< tt, laws .shared .one) })
+      (placed-reasoned L (laws .shared) (plan F text) (W .base) (blank (length (W .memory))) (plan-ok F L laws text))
 
   -- a load with refusal number 0 has a summary and an image
   pub accepted-is : (W : Window) (text : List ℕ) → Accepted F W text → (s : Summary) × (img : Image) × (load W (plan F text) ≡ accepted s img)
@@ -156,7 +158,8 @@ module _ (F : Format) (L : Limits) (laws : Lawful F L) where
       go (accepted s img) r q = (s, img, refl)
 
   -- the number and the byte of any answer: both 0, or a row's
-  pub answer-given : (W : Window) (text : List ℕ) → let f = loaded F W text .refusal in ((f .reason ≡ 0) × (f .want ≡ 0)) ⊎ Given L (f .reason) (f .want)
+  pub answer-given : (W : Window) (text : List ℕ) → let f = loaded F W text .refusal in
+      ((f .reason ≡ 0) × (f .want ≡ 0)) ⊎ Given L (f .reason) (f .want)
   answer-given W text = go (load W (plan F text)) (load-reasoned W text .got)
     where
       go : (o : Outcome) → Reasoned L o → let f = loadAnswer o .refusal in ((f .reason ≡ 0) × (f .want ≡ 0)) ⊎ Given L (f .reason) (f .want)
@@ -199,7 +202,8 @@ module _ (F : Format) (L : Limits) (laws : Lawful F L) where
       = allowed-is X (length-map img mark ∙ sym (b .long) ∙ sym (length-overlaid (W .memory) img)) (rw length-overlaid (b .fits)) in
       let same : shown X ≡ cells (W .base) img = ap (cells (W .base)) (image-after (W .memory) img (b .long)) in
       let odd : row16 (X .marks) ≡ false = rw (no-odd img) (le-ltb (length (marksOf img)) (length (marksOf img)) (omega arith)) in
-      write-is F L laws X (s .header) (s .entry) room a odd (subst (λ (cs : List Cell). Storable L cs (s .header) (s .entry)) (sym same) (b .storable)) r
+      write-is F L laws X (s .header) (s .entry) room a odd
+      (subst (λ (cs : List Cell). Storable L cs (s .header) (s .entry)) (sym same) (b .storable)) r
       ∙ ap (λ (cs : List Cell). wrote (F .canonical cs (s .header) (s .entry))) same
 
   -- with room enough, the canonical text of the loaded cells is written

@@ -75,7 +75,8 @@ module _ (base : ℕ) (img : Image) (a n : ℕ) (taken : List Cell) (low : base 
   found r =
       by-test (anyGiven y) (λ v. v)
       (λ v. absurd (⊎-elim (λ k. omega (arith, in-high (r .0) (r .1) base x k, length-left base img a n low high, r .3))
-      (λ k. ⊎-elim (λ l. rw (cells-none a y v) at l) (λ l. omega (arith, in-low (r .0) (r .1) (a + n) (cells (a + n) z) (rising-cells (a + n) z) l, r .4))
+      (λ k. ⊎-elim (λ l. rw (cells-none a y v) at l)
+      (λ l. omega (arith, in-low (r .0) (r .1) (a + n) (cells (a + n) z) (rising-cells (a + n) z) l, r .4))
       (in-cases (r .0) (r .1) (cells a y) (cells (a + n) z) k))
       (in-cases (r .0) (r .1) (cells base x) (cells a y ++ cells (a + n) z) (rw (cut base img a n low high) at (s (r .0) (r .1) .1 (r .2))))))
 
@@ -84,7 +85,8 @@ module _ (base : ℕ) (img : Image) (a n : ℕ) (taken : List Cell) (low : base 
   met v =
       let r : (A : ℕ) × (B : ℕ) × In A B (cells a y) = any-in a y v in
       let k : In (r .0) (r .1) (cells base img)
-      = rw (cut base img a n low high) (in-right (r .0) (r .1) (cells base x) (cells a y ++ cells (a + n) z) (in-left (r .0) (r .1) (cells a y) (cells (a + n) z) (r .2))) in
+      = rw (cut base img a n low high) (in-right (r .0) (r .1) (cells base x) (cells a y ++ cells (a + n) z)
+      (in-left (r .0) (r .1) (cells a y) (cells (a + n) z) (r .2))) in
       meets-in (r .0) (r .1) a n taken (s (r .0) (r .1) .0 k) (in-low (r .0) (r .1) a (cells a y) (rising-cells a y) (r .2))
       (omega (arith, in-high (r .0) (r .1) a y (r .2), length-middle base img a n low high))
 
@@ -109,9 +111,11 @@ asked-inside : (base size : ℕ) (r : Run) (rest : List Cell) → Inside base si
     → (base ≤ r .addr) × (r .addr + length (r .bytes) ≤ base + size)
 asked-inside base size r rest f l =
     let at : (j : ℕ) → j < length (r .bytes) → (base ≤ r .addr + j) × (r .addr + j < base + size)
-    = λ j h. f (r .addr + j) (getD (r .bytes) j 0) (in-left (r .addr + j) (getD (r .bytes) j 0) (cellsOf r) rest (hit-in (r .addr + j) (getD (r .bytes) j 0) r (j, h, refl, refl))) in
+    = λ j h. f (r .addr + j) (getD (r .bytes) j 0)
+    (in-left (r .addr + j) (getD (r .bytes) j 0) (cellsOf r) rest (hit-in (r .addr + j) (getD (r .bytes) j 0) r (j, h, refl, refl))) in
     let first : (base ≤ r .addr + 0) × (r .addr + 0 < base + size) = at 0 l in
-    let last : (base ≤ r .addr + (length (r .bytes) - 1)) × (r .addr + (length (r .bytes) - 1) < base + size) = at (length (r .bytes) - 1) (omega arith) in
+    let last : (base ≤ r .addr + (length (r .bytes) - 1)) × (r .addr + (length (r .bytes) - 1) < base + size)
+    = at (length (r .bytes) - 1) (omega arith) in
     (omega (arith, first .0), omega (arith, last .1))
 
 -- a store that row 12 lets pass, for which row 13 is that of the list, and which leaves the image its length
@@ -121,7 +125,8 @@ record Tests (base : ℕ) (img : Image) (a : ℕ) (ds : List ℕ) (taken : List 
   same-length : length (filled base img a ds) ≡ length img
 
 -- every store that asks for cells of the window is such a store
-tests : (base : ℕ) (img : Image) (a : ℕ) (ds : List ℕ) (taken rest : List Cell) → Inside base (length img) (cells a (map some ds) ++ rest) → Sees base img taken
+tests : (base : ℕ) (img : Image) (a : ℕ) (ds : List ℕ) (taken rest : List Cell) → Inside base (length img) (cells a (map some ds) ++ rest)
+    → Sees base img taken
     → Tests base img a ds taken
 unfolding row12 row13
 tests base img a [] taken rest f s =
@@ -130,7 +135,8 @@ tests base img a [] taken rest f s =
     none-met : meets taken a 0 ≡ false
     none-met = by-test (meets taken a 0) (λ t. absurd (let r : Met a 0 taken = in-meets a 0 taken t in omega arith)) (λ t. t)
 tests base img a (d ∷ ds) taken rest f s =
-    let i : (base ≤ a) × (a + suc (length ds) ≤ base + length img) = asked-inside base (length img) (record { addr = a; bytes = d ∷ ds }) rest f (omega arith) in
+    let i : (base ≤ a) × (a + suc (length ds) ≤ base + length img)
+    = asked-inside base (length img) (record { addr = a; bytes = d ∷ ds }) rest f (omega arith) in
     record {
       twelve = not-row12 base img a (d ∷ ds) (i .0) (i .1);
       thirteen = row13-meets base img a (suc (length ds)) taken (i .0) (i .1) s;
@@ -154,7 +160,8 @@ sees-more base img a ds taken b s A B =
 -- an outcome is the refusal of a result, or has its values and its cells
 abbrev pub Leads : ℕ → Result → Outcome → Type 0
 Leads base (fails f) o = o ≡ refused f
-Leads base (passes h e r cs) o = (img : Image) × (c : ℕ) × (o ≡ accepted (record { header = h; entry = e; records = r; cells = c }) img) × Sees base img cs
+Leads base (passes h e r cs) o = (img : Image) × (c : ℕ) ×
+    (o ≡ accepted (record { header = h; entry = e; records = r; cells = c }) img) × Sees base img cs
 
 -- in a window that holds its cells, placing a plan leads to its result
 pub placed-leads : (base : ℕ) (img : Image) (taken : List Cell) (p : Plan) → Inside base (length img) (asked p) → Sees base img taken

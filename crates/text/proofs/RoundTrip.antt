@@ -33,7 +33,8 @@ texts q = cc
 -- ---- equal content, equal texts
 
 module _ (F : Format) (L : Limits) (laws : Lawful F L) where
-  module _ (W₁ W₂ : Window) (t₁ t₂ : List ℕ) (s₁ s₂ : Summary) (img₁ img₂ : Image) (b₁ : Behind F L W₁ t₁ s₁ img₁) (b₂ : Behind F L W₂ t₂ s₂ img₂) where
+  module _ (W₁ W₂ : Window) (t₁ t₂ : List ℕ) (s₁ s₂ : Summary) (img₁ img₂ : Image) (b₁ : Behind F L W₁ t₁ s₁ img₁)
+      (b₂ : Behind F L W₂ t₂ s₂ img₂) where
     -- the cells that the first load leaves
     abbrev cs₁ : List Cell
     cs₁ = cells (W₁ .base) img₁
@@ -57,7 +58,11 @@ module _ (F : Format) (L : Limits) (laws : Lawful F L) where
     text-content q =
         let k : (cs₁ ≡ cs₂) × (s₁ .header ≡ s₂ .header) × (s₁ .entry ≡ s₂ .entry)
         = canonical-inj F L laws cs₁ cs₂ (s₁ .header) (s₂ .header) (s₁ .entry) (s₂ .entry) (b₁ .storable) (b₂ .storable) q in (
-          λ A B. (λ m. b₂ .members A B .0 (subst (In A B) (k .0) (b₁ .members A B .1 m)), λ m. b₁ .members A B .0 (subst (In A B) (sym (k .0)) (b₂ .members A B .1 m))),
+          λ A B. (
+            λ m. b₂ .members A B .0 (subst (In A B) (k .0) (b₁ .members A B .1 m)),
+            λ m. b₁ .members A B .0
+                (subst (In A B) (sym (k .0)) (b₂ .members A B .1 m)),
+          ),
           sym (b₁ .header) ∙ k .1 ∙ b₂ .header,
           sym (b₁ .entry) ∙ k .2 ∙ b₂ .entry,
         )
@@ -150,7 +155,8 @@ module _ (F : Format) (L : Limits) (laws : Lawful F L) where
 
   -- the canonical text of what a load left gives back what the load gave, in any allowed window that holds its cells
   again : (W W′ : Window) (t : List ℕ) (s : Summary) (img : Image) → load W (plan F t) ≡ accepted s img → Behind F L W t s img → Allowed W′
-      → HoldsCells F W′ (F .canonical (cells (W .base) img) (s .header) (s .entry)) → LoadsBack F W W′ t (F .canonical (cells (W .base) img) (s .header) (s .entry))
+      → HoldsCells F W′ (F .canonical (cells (W .base) img) (s .header) (s .entry))
+      → LoadsBack F W W′ t (F .canonical (cells (W .base) img) (s .header) (s .entry))
   again W W′ t s img q b a f =
       let cs : List Cell = cells (W .base) img in
       let h : List ℕ = s .header in
@@ -177,4 +183,5 @@ module _ (F : Format) (L : Limits) (laws : Lawful F L) where
   pub written-loads-back : Written-loads-back F
   written-loads-back W W′ t t′ room a w allowed f =
       let o : Origin W t t′ = origin W t t′ room a w in
-      subst (LoadsBack F W W′ t) (o .text-is) (again W W′ t (o .sum) (o .img) (o .load-is) (o .behind) allowed (subst (HoldsCells F W′) (sym (o .text-is)) f))
+      subst (LoadsBack F W W′ t) (o .text-is) (again W W′ t (o .sum) (o .img) (o .load-is) (o .behind) allowed
+      (subst (HoldsCells F W′) (sym (o .text-is)) f))

@@ -30,7 +30,8 @@ goes-not : (a n : ℕ) (c : Cell) → a ≤ c .addr → goesOn a n c ≡ false �
 unfolding goesOn
 goes-not a n c l e =
     by-test (ltb a (c .addr)) (λ t. inl (ltb-true a (c .addr) t))
-    (λ t. by-test (ltb 0 n) (λ v. absurd (never (rw (eq-eqb (c .addr) a (omega (arith, l, ltb-false a (c .addr) t)), v) at e))) (λ v. inr (omega (arith, ltb-false 0 n v))))
+    (λ t. by-test (ltb 0 n) (λ v. absurd (never (rw (eq-eqb (c .addr) a (omega (arith, l, ltb-false a (c .addr) t)), v) at e)))
+    (λ v. inr (omega (arith, ltb-false 0 n v))))
   where
     never : true ≡ false → ⊥
     never q = let z : _≡_ {A = ℕ} 0 1 = cc in omega arith
@@ -169,7 +170,12 @@ module _ (follow : ℕ → ℕ) where
   sized-behind a n [] = tt
   sized-behind a n (c ∷ cs) =
       by-test (goesOn a n c) (λ e. rw e (sized-behind (suc a) (n - 1) cs))
-      (λ e. rw e (omega arith, omega (arith, stretch-short (suc (c .addr)) (follow (c .addr)) cs), sized-behind (suc (c .addr)) (follow (c .addr)) cs))
+      (λ e. rw e (
+        omega arith,
+        omega (arith, stretch-short (suc (c .addr)) (follow (c .addr)) cs),
+        sized-behind (suc (c .addr))
+            (follow (c .addr)) cs,
+      ))
 
   -- the runs of any cells are so
   pub sized-runs : (cs : List Cell) → AllSized follow (runs follow cs)

@@ -1,4 +1,5 @@
--- A window's cells from an index on, for a writer of any format: what is skipped, and the run that stands at a marked cell, before the runs behind it.
+-- A window's cells from an index on, for a writer of any format: what is skipped, and the run that stands at a marked cell,
+-- before the runs behind it.
 use mathlib.Core.Path.{_≡_, refl, sym, ap, ap₂, _∙_}
 use Prim.Native.Nat.{ℕ, zero, suc, _+_, _-_, _≤_, _<_}
 use native.Mathlib.Nat.{add-suc, suc-add, add-zero, add-assoc}
@@ -23,7 +24,8 @@ cellsFrom base memory marks i = cells (base + i) (image (drop i memory) (drop i 
 -- ---- gaps
 
 -- the cells without a mark that come first add no cells
-skipped : (a : ℕ) (memory marks : List ℕ) → cells a (image memory marks) ≡ cells (a + unmarked marks) (image (drop (unmarked marks) memory) (drop (unmarked marks) marks))
+skipped : (a : ℕ) (memory marks : List ℕ) → cells a (image memory marks) ≡ cells (a + unmarked marks)
+    (image (drop (unmarked marks) memory) (drop (unmarked marks) marks))
 skipped a [] marks = rw (drop-nil (unmarked marks))
 skipped a (b ∷ memory) [] = refl
 skipped a (b ∷ memory) (zero ∷ marks) = rw (add-suc a (unmarked marks), ← (suc-add a (unmarked marks))) (skipped (suc a) memory marks)
@@ -63,7 +65,8 @@ next-bounds marks i n h q = (
 pub from-next : (base : ℕ) (memory marks : List ℕ) (i n : ℕ) → NextAt marks i n → cellsFrom base memory marks n ≡ cellsFrom base memory marks i
 unfolding cellsFrom
 from-next base memory marks i n q =
-    sym (skipped (base + i) (drop i memory) (drop i marks) ∙ from-add base memory marks i (unmarked (drop i marks)) ∙ ap (cellsFrom base memory marks) (sym q))
+    sym (skipped (base + i) (drop i memory) (drop i marks) ∙ from-add base memory marks i (unmarked (drop i marks))
+    ∙ ap (cellsFrom base memory marks) (sym q))
 
 -- the cells from index 0 on are all, and behind the last there is none
 pub from-zero : (base : ℕ) (memory marks : List ℕ) → cellsFrom base memory marks 0 ≡ cells base (image memory marks)
@@ -97,7 +100,8 @@ apart a n [] h = refl
 apart a n (c ∷ cs) h = rw (ne-eqb (c .addr) a (λ e. omega (arith, h .0))) refl
 
 -- the cells that go on with a run, as marks and memory show them
-pub stretch-marks : (a n : ℕ) (memory marks : List ℕ) → length memory ≡ length marks → stretch a n (cells a (image memory marks)) ≡ take (runOn n marks) memory
+pub stretch-marks : (a n : ℕ) (memory marks : List ℕ) → length memory ≡ length marks
+    → stretch a n (cells a (image memory marks)) ≡ take (runOn n marks) memory
 unfolding goesOn
 stretch-marks a n [] [] e = refl
 stretch-marks a n [] (m ∷ marks) e = absurd (omega arith)
@@ -110,7 +114,8 @@ stretch-marks a n (x ∷ memory) (suc m ∷ marks) e =
 
 -- and the cells behind them
 drop-marks : (a n : ℕ) (memory marks : List ℕ) → length memory ≡ length marks
-    → drop (runOn n marks) (cells a (image memory marks)) ≡ cells (a + runOn n marks) (image (drop (runOn n marks) memory) (drop (runOn n marks) marks))
+    → drop (runOn n marks) (cells a (image memory marks)) ≡ cells (a + runOn n marks)
+    (image (drop (runOn n marks) memory) (drop (runOn n marks) marks))
 drop-marks a n [] [] e = refl
 drop-marks a n [] (m ∷ marks) e = absurd (omega arith)
 drop-marks a n (x ∷ memory) [] e = absurd (omega arith)
@@ -133,7 +138,8 @@ behind-first n (suc m) marks g = let e : suc n - 1 ≡ n = omega arith in rw (lt
 abbrev pub EndsAt : (ℕ → ℕ) → ℕ → List ℕ → ℕ → ℕ → Type 0
 EndsAt follow base marks i j = j ≡ i + runOn (suc (follow (base + i))) (drop i marks)
 
-module _ (follow : ℕ → ℕ) (base : ℕ) (marks : List ℕ) (i j : ℕ) (h : i < length marks) (g : unmarked (drop i marks) ≡ 0) (q : EndsAt follow base marks i j) where
+module _ (follow : ℕ → ℕ) (base : ℕ) (marks : List ℕ) (i j : ℕ) (h : i < length marks) (g : unmarked (drop i marks) ≡ 0)
+    (q : EndsAt follow base marks i j) where
   -- the cells of the run at a marked cell, behind the first
   ends-behind : j ≡ suc i + runOn (follow (base + i)) (drop (suc i) marks)
   ends-behind =
@@ -165,10 +171,12 @@ first-run follow a b (suc m) memory marks e g =
     let s : stretch (suc a) (follow a) cs ≡ take k memory = stretch-marks (suc a) (follow a) memory marks e in
     let n : length (stretch (suc a) (follow a) cs) ≡ k = ap length s ∙ length-take-le k memory (omega (arith, run-inside (follow a) marks)) in
     runs-first follow (record { addr = a; byte = b }) cs
-    ∙ ap₂ (λ (bs : List ℕ) (ds : List Cell). record { addr = a; bytes = b ∷ bs } ∷ runs follow ds) s (ap (λ (i : ℕ). drop i cs) n ∙ drop-marks (suc a) (follow a) memory marks e)
+    ∙ ap₂ (λ (bs : List ℕ) (ds : List Cell). record { addr = a; bytes = b ∷ bs } ∷ runs follow ds) s
+    (ap (λ (i : ℕ). drop i cs) n ∙ drop-marks (suc a) (follow a) memory marks e)
 
 -- the runs from a marked cell on: its run, and the runs behind it
-pub runs-at : (follow : ℕ → ℕ) (base : ℕ) (memory marks : List ℕ) (i j : ℕ) → length memory ≡ length marks → i < length marks → unmarked (drop i marks) ≡ 0
+pub runs-at : (follow : ℕ → ℕ) (base : ℕ) (memory marks : List ℕ) (i j : ℕ) → length memory ≡ length marks → i < length marks
+    → unmarked (drop i marks) ≡ 0
     → EndsAt follow base marks i j
     → runs follow (cellsFrom base memory marks i) ≡ runAt base memory i j ∷ runs follow (cellsFrom base memory marks j)
 unfolding cellsFrom

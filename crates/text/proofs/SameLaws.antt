@@ -45,7 +45,8 @@ same-cell-list (x ∷ xs) (y ∷ ys) t =
 pub same-refusal : (f g : Refusal) → T (sameRefusal f g) → f ≡ g
 same-refusal f g t =
     let place : Bool = eqb (f .place) (g .place) && eqb (f .want) (g .want) in
-    let k : T (eqb (f .reason) (g .reason)) × T (eqb (f .ordinal) (g .ordinal) && place) = and-yes (eqb (f .reason) (g .reason)) (eqb (f .ordinal) (g .ordinal) && place) t in
+    let k : T (eqb (f .reason) (g .reason)) × T (eqb (f .ordinal) (g .ordinal) && place)
+    = and-yes (eqb (f .reason) (g .reason)) (eqb (f .ordinal) (g .ordinal) && place) t in
     let l : T (eqb (f .ordinal) (g .ordinal)) × T place = and-yes (eqb (f .ordinal) (g .ordinal)) place (k .1) in
     let m : T (eqb (f .place) (g .place)) × T (eqb (f .want) (g .want)) = and-yes (eqb (f .place) (g .place)) (eqb (f .want) (g .want)) (l .1) in
     λ i. record {
@@ -68,7 +69,8 @@ same-result (fails f) (fails g) q = ap fails (same-refusal f g q)
 same-result (fails f) (passes h e r cs) q = absurd q
 same-result (passes h e r cs) (fails f) q = absurd q
 same-result (passes h e r cs) (passes h′ e′ r′ cs′) q =
-    let k : T (sameList h h′) × T (sameEntry e e′ && (eqb r r′ && sameCells cs cs′)) = and-yes (sameList h h′) (sameEntry e e′ && (eqb r r′ && sameCells cs cs′)) q in
+    let k : T (sameList h h′) × T (sameEntry e e′ && (eqb r r′ && sameCells cs cs′))
+    = and-yes (sameList h h′) (sameEntry e e′ && (eqb r r′ && sameCells cs cs′)) q in
     let l : T (sameEntry e e′) × T (eqb r r′ && sameCells cs cs′) = and-yes (sameEntry e e′) (eqb r r′ && sameCells cs cs′) (k .1) in
     let m : T (eqb r r′) × T (sameCells cs cs′) = and-yes (eqb r r′) (sameCells cs cs′) (l .1) in
     λ i. passes (same-list h h′ (k .0) i) (same-entry e e′ (l .0) i) (eqb→eq r r′ (m .0) i) (same-cell-list cs cs′ (m .1) i)
@@ -112,7 +114,8 @@ storable-of L cs h e t =
     let c : T (isRising 0 cs) × T (allSmall (L .top) cs) = and-yes (isRising 0 cs) (allSmall (L .top) cs) (k .0) in
     let m : T head × T last = and-yes head last (k .1) in
     let a : T (allBytes h) × T (leb (length h) (L .most)) = and-yes (allBytes h) (leb (length h) (L .most)) (m .0) in
-    let z : T (sameTest (isPresent e) (L .started)) × T (ltb (addressOf e) (2 ^ 32)) = and-yes (sameTest (isPresent e) (L .started)) (ltb (addressOf e) (2 ^ 32)) (m .1) in
+    let z : T (sameTest (isPresent e) (L .started)) × T (ltb (addressOf e) (2 ^ 32))
+    = and-yes (sameTest (isPresent e) (L .started)) (ltb (addressOf e) (2 ^ 32)) (m .1) in
     record {
       rising = rising-of 0 cs (c .0);
       small = small-of (L .top) cs (c .1);

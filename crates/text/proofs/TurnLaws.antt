@@ -74,7 +74,8 @@ module _ (F : Format) (text : List ℕ) (base size : ℕ) (img : Image) (s : Sta
 
     -- a data line that rows 12 and 13 let pass: the walk goes on with the filled image
     pub walk-put : (a : ℕ) (ds : List ℕ) → F .step s (part text from to) ≡ put a ds
-        → row12 base (length img) a (length ds) ≡ false → row13 base img a (length ds) ≡ false → Walk F text base size (filled base img a ds) (moreData s (length ds)) to
+        → row12 base (length img) a (length ds) ≡ false → row13 base img a (length ds) ≡ false
+        → Walk F text base size (filled base img a ds) (moreData s (length ds)) to
     walk-put a ds e twelve thirteen =
         record {
           inside = n .high;

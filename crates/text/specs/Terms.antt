@@ -111,7 +111,8 @@ after F W text =
 abbrev pub headerBytes : Loaded → List ℕ
 headerBytes l = take (l .header .len) (l .header .bytes)
 
--- 01's "the writer is given the base, memory and marks of the window after the load, the returned header's bytes up to its length, and the returned entry"
+-- 01's "the writer is given the base, memory and marks of the window after the load, the returned header's bytes up to its
+-- length, and the returned entry"
 abbrev pub writtenAfter : Format → Window → List ℕ → ℕ → WriteOutcome
 writtenAfter F W text room = write F (after F W text) (headerBytes (loaded F W text)) (loaded F W text .entry) room
 

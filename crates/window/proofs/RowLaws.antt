@@ -36,5 +36,15 @@ module _ (base : ℕ) (memory marks : List ℕ) where
   unfolding row1
   row-1-reach b e =
       by-test (ltb (2 ^ 32) (base + length memory))
-      (λ t. rw (eq-eqb (length marks) (length memory) e, t, lt-leb (length memory) (2 ^ 32 - base) (omega (arith, ltb-true (2 ^ 32) (base + length memory) t))))
-      (λ t. rw (eq-eqb (length marks) (length memory) e, t, le-leb (length memory) (2 ^ 32 - base) (omega (arith, ltb-false (2 ^ 32) (base + length memory) t))))
+      (λ t. rw (
+        eq-eqb (length marks) (length memory) e,
+        t,
+        lt-leb (length memory) (2 ^ 32 - base)
+            (omega (arith, ltb-true (2 ^ 32) (base + length memory) t)),
+      ))
+      (λ t. rw (
+        eq-eqb (length marks) (length memory) e,
+        t,
+        le-leb (length memory) (2 ^ 32 - base)
+            (omega (arith, ltb-false (2 ^ 32) (base + length memory) t)),
+      ))

@@ -19,8 +19,11 @@ outcome c = let a = call c .args in placed (a .base) (blank (a .cells)) (plan sr
 returns : tie.Need-returns
 returns c =
     let at-walk = c .before .before .before .before in
-    let a = call at-walk .args in
-    (at-walk .walk .ensures .0, left-accepted (a .form) (outcome at-walk) (a .marks .now) _ (sym (c .enum-told .given .1) ∙ at-walk .walk .ensures .0) (at-walk .walk .ensures .1))
+    let a = call at-walk .args in (
+      at-walk .walk .ensures .0,
+      left-accepted (a .form) (outcome at-walk) (a .marks .now) _
+          (sym (c .enum-told .given .1) ∙ at-walk .walk .ensures .0) (at-walk .walk .ensures .1),
+    )
 
 returns-2 : tie.Need-returns-2
 returns-2 c =

@@ -21,7 +21,8 @@ returns c =
 returns-2 : tie.Need-returns-2
 returns-2 c =
     let a = c .before .before .before .before .args in
-    at-end (a .state) (a .entry) (lines isEnd (a .at) (drop (a .at) (a .text .now))) (sym (c .enum-told .given .1) ∙ c .before .before .next-record .ensures)
+    at-end (a .state) (a .entry) (lines isEnd (a .at) (drop (a .at) (a .text .now)))
+    (sym (c .enum-told .given .1) ∙ c .before .before .next-record .ensures)
 
 pub ended-spec : {M : Type 1} → statement M
 ended-spec =

@@ -34,7 +34,8 @@ abbrev own : tie.After-step-of Inv-loop μ-loop → tie.At-loop Inv-loop μ-loop
 own c = head (line c)
 
 -- the record at hand
-next-at : (c : tie.After-found Inv-loop μ-loop) → Next isEnd (call (head c) .args .text .now) (head c .loop .at) (c .found .given .0 .0) (c .found .given .0 .1 .0)
+next-at : (c : tie.After-found Inv-loop μ-loop) → Next isEnd (call (head c) .args .text .now) (head c .loop .at) (c .found .given .0 .0)
+    (c .found .given .0 .1 .0)
 next-at c = next-is isEnd _ _ _ _ (head c .loop .inv .1 .walk .inside) (sym (c .found .given .1) ∙ c .before .before .next-record .ensures)
 
 loop-holds : tie.Need-loop-holds Inv-loop μ-loop
@@ -95,7 +96,8 @@ returns-3 : tie.Need-returns-3 Inv-loop μ-loop
 returns-3 c =
     let at-step = c .before .before in
     let j = at-step .before .before in
-    rw (c .ended .ensures) (told-ended lawful counting (own j .loop .inv .1) (next-at (line j)) (j .step-of .ensures) (at-step .step2 .given .1) _ refl)
+    rw (c .ended .ensures) (told-ended lawful counting (own j .loop .inv .1) (next-at (line j)) (j .step-of .ensures)
+    (at-step .step2 .given .1) _ refl)
 
 loop-less : tie.Need-loop-less Inv-loop μ-loop
 loop-less c = let x = next-at (line (c .before .before .before)) in omega (arith, x .low, x .some-chars, x .high)

@@ -57,7 +57,8 @@ returns-2 c =
     let l = behind (passed w) in
     let e = l .load .ensures in
     let is = written-is (window l) (text l) (length (out l)) (l .load .result) _ _ (e .0) (e .1 .0) (e .1 .1) in
-    let r = write-refused (window l) (text l) (out l) (accepted-at (passed w)) _ is _ _ (ap (λ (x : Written). x .refusal) (w .write .ensures .0)) (c .if2 .taken) (w .write .ensures .1) in
+    let r = write-refused (window l) (text l) (out l) (accepted-at (passed w)) _ is _ _
+    (ap (λ (x : Written). x .refusal) (w .write .ensures .0)) (c .if2 .taken) (w .write .ensures .1) in
     (r .0, (e .1 .0, (e .1 .1, r .1)))
 
 returns-3 : tie.Need-returns-3
@@ -67,7 +68,8 @@ returns-3 c =
     let e = l .load .ensures in
     let is = written-is (window l) (text l) (length (out l)) (l .load .result) _ _ (e .0) (e .1 .0) (e .1 .1) in
     let r = text-written (window l) (text l) (out l) (accepted-at (passed w)) _ is _ _
-    (sym (ap (λ (x : Written). x .refusal .reason) (w .write .ensures .0)) ∙ c .if2 .left) (ap (λ (x : Written). x .length) (w .write .ensures .0)) (w .write .ensures .1) in
+    (sym (ap (λ (x : Written). x .refusal .reason) (w .write .ensures .0)) ∙ c .if2 .left)
+    (ap (λ (x : Written). x .length) (w .write .ensures .0)) (w .write .ensures .1) in
     (r .0, (e .1 .0, (e .1 .1, r .1)))
 
 pub convert-spec : {M : Type 1} → statement M

@@ -27,7 +27,8 @@ loop-again c =
     let l = c .before .before .before .before .before .before .loop in (
       omega arith,
       c .before .before .put-pair .kept .0 ∙ l .inv .1,
-      rw (c .before .before .put-pair .ensures, l .inv .2) (pairs-more (s .args .out .now) (s .args .at) (s .args .bytes .now) (l .k) (s .pre) (omega arith)),
+      rw (c .before .before .put-pair .ensures, l .inv .2)
+          (pairs-more (s .args .out .now) (s .args .at) (s .args .bytes .now) (l .k) (s .pre) (omega arith)),
     )
 
 returns : tie.Need-returns Inv-loop μ-loop

@@ -42,7 +42,8 @@ check-requires c κs =
     let k = at-table .before .before in
     let a = call k .args in (
       at-table .digit-table .ensures,
-      cleared-is (a .base) (a .memory .now) (a .marks .now) (a .text .now) (decided k .is-allowed .ensures) (not-false _ (at-table .before .if1 .left)) _ (cleared k .clear .ensures),
+      cleared-is (a .base) (a .memory .now) (a .marks .now) (a .text .now) (decided k .is-allowed .ensures)
+          (not-false _ (at-table .before .if1 .left)) _ (cleared k .clear .ensures),
     )
 
 returns-2 : tie.Need-returns-2
@@ -51,7 +52,8 @@ returns-2 c =
     let at-check = at-checked .before .before .before .before in
     let k = allowed at-check .before in
     let a = call k .args in
-    checked-refused (a .base) (a .memory .now) (a .marks .now) (a .text .now) (decided k .is-allowed .ensures) (not-false _ (allowed at-check .if1 .left)) _ (cleared k .clear .ensures)
+    checked-refused (a .base) (a .memory .now) (a .marks .now) (a .text .now) (decided k .is-allowed .ensures)
+    (not-false _ (allowed at-check .if1 .left)) _ (cleared k .clear .ensures)
     _ _ _ (sym (at-checked .checked .given .1) ∙ at-check .check .ensures .0) (c .refused-answer2 .ensures) (at-check .check .ensures .1)
 
 store-all-requires : tie.Need-store-all-requires
@@ -61,7 +63,8 @@ store-all-requires c κs =
     let k = allowed at-check .before in
     let a = call k .args in (
       at-check .before .before .before .digit-table .ensures,
-      accepts (a .base) (a .memory .now) (a .marks .now) (a .text .now) (decided k .is-allowed .ensures) (not-false _ (allowed at-check .if1 .left)) _ (cleared k .clear .ensures)
+      accepts (a .base) (a .memory .now) (a .marks .now) (a .text .now) (decided k .is-allowed .ensures)
+          (not-false _ (allowed at-check .if1 .left)) _ (cleared k .clear .ensures)
           _ _ _ (sym (at-checked .checked2 .given .1) ∙ at-check .check .ensures .0),
     )
 
@@ -81,8 +84,10 @@ returns-3 c =
     let k = allowed at-check .before in
     let a = call k .args in
     rw (c .accepted-answer .ensures)
-    (checked-accepted (a .base) (a .memory .now) (a .marks .now) (a .text .now) (decided k .is-allowed .ensures) (not-false _ (allowed at-check .if1 .left)) _ (cleared k .clear .ensures)
-    _ _ _ _ _ _ (sym (at-checked .checked2 .given .1) ∙ at-check .check .ensures .0) (at-check .check .ensures .1) (stored c .store-all .ensures) (c .before .header-of .ensures))
+    (checked-accepted (a .base) (a .memory .now) (a .marks .now) (a .text .now) (decided k .is-allowed .ensures)
+    (not-false _ (allowed at-check .if1 .left)) _ (cleared k .clear .ensures)
+    _ _ _ _ _ _ (sym (at-checked .checked2 .given .1) ∙ at-check .check .ensures .0) (at-check .check .ensures .1)
+    (stored c .store-all .ensures) (c .before .header-of .ensures))
 
 pub load-spec : {M : Type 1} → statement M
 load-spec =

@@ -22,7 +22,8 @@ abbrev from : tie.Else4 → ℕ
 from d = call d .args .address - call d .args .base
 
 long-at : (d : tie.Else4) → length (call d .args .marks .now) ≡ call d .args .cells
-long-at d = let s = call d in let a = s .args in bytes-long (a .form) (a .cells) (a .marks .now) (tidy-length (a .form) (a .cells) (a .marks .now) (s .pre))
+long-at d = let s = call d in let a = s .args in bytes-long (a .form) (a .cells) (a .marks .now)
+    (tidy-length (a .form) (a .cells) (a .marks .now) (s .pre))
 
 returns : tie.Need-returns
 returns c =
@@ -40,13 +41,15 @@ returns-3 : tie.Need-returns-3
 returns-3 c =
     let s = c .before .before .before .before in
     let a = s .args in
-    row-12-high (a .form) (a .cells) (a .marks .now) (s .pre) (a .base) (a .address) (a .count) (c .before .before .if1 .left) (c .before .if2 .left) (omega arith)
+    row-12-high (a .form) (a .cells) (a .marks .now) (s .pre) (a .base) (a .address) (a .count) (c .before .before .if1 .left)
+    (c .before .if2 .left) (omega arith)
 
 returns-4 : tie.Need-returns-4
 returns-4 c =
     let s = c .before .before .before .before .before in
     let a = s .args in
-    row-12-high (a .form) (a .cells) (a .marks .now) (s .pre) (a .base) (a .address) (a .count) (c .before .before .before .if1 .left) (c .before .before .if2 .left) (omega arith)
+    row-12-high (a .form) (a .cells) (a .marks .now) (s .pre) (a .base) (a .address) (a .count) (c .before .before .before .if1 .left)
+    (c .before .before .if2 .left) (omega arith)
 
 part-is-free-end : tie.Need-part-is-free-end
 part-is-free-end c = let e = long-at (c .before) in search needs
@@ -58,7 +61,8 @@ returns-5 c =
     let a = s .args in
     let f : isFree (take (a .count) (drop (from d) (a .marks .now))) ≡ false
     = rw add-sub-cancel-left at (sym (c .before .is-free .ensures) ∙ not-true _ (c .if5 .taken)) in
-    row-13 (a .form) (a .cells) (a .marks .now) (s .pre) (a .base) (a .address) (a .count) (d .before .before .before .if1 .left) (d .before .before .if2 .left) (omega arith) f
+    row-13 (a .form) (a .cells) (a .marks .now) (s .pre) (a .base) (a .address) (a .count) (d .before .before .before .if1 .left)
+    (d .before .before .if2 .left) (omega arith) f
 
 part-fill-end : tie.Need-part-fill-end
 part-fill-end c = let e = long-at (c .before .before .before .before) in search needs

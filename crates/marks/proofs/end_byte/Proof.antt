@@ -23,22 +23,29 @@ returns : tie.Need-returns Inv-loop μ-loop
 returns c =
     let l = c .before .before .before .loop in
     let a = c .before .before .before .before .args in
-    let same : getD (take (a .to) (a .marks .now)) (l .i) 0 ≡ getD (a .marks .now) (l .i) 0 = getD-take (a .to) (a .marks .now) (l .i) 0 (omega arith) in
-    sym (at-stop run (take (a .to) (a .marks .now)) (l .i) (omega (arith, length-take-le (a .to) (a .marks .now) (omega arith))) (run-stop _ (same ∙ c .if1 .taken))) ∙ l .inv .1
+    let same : getD (take (a .to) (a .marks .now)) (l .i) 0 ≡ getD (a .marks .now) (l .i) 0
+    = getD-take (a .to) (a .marks .now) (l .i) 0 (omega arith) in
+    sym (at-stop run (take (a .to) (a .marks .now)) (l .i) (omega (arith, length-take-le (a .to) (a .marks .now) (omega arith)))
+    (run-stop _ (same ∙ c .if1 .taken))) ∙ l .inv .1
 
 loop-again : tie.Need-loop-again Inv-loop μ-loop
 loop-again c =
     let l = c .before .before .before .loop in
     let a = c .before .before .before .before .args in
-    let same : getD (take (a .to) (a .marks .now)) (l .i) 0 ≡ getD (a .marks .now) (l .i) 0 = getD-take (a .to) (a .marks .now) (l .i) 0 (omega arith) in
-    (omega arith, at-step run run (take (a .to) (a .marks .now)) (l .i) (omega (arith, length-take-le (a .to) (a .marks .now) (omega arith))) (run-step _ (λ z. c .if1 .left (sym same ∙ z))) ∙ l .inv .1)
+    let same : getD (take (a .to) (a .marks .now)) (l .i) 0 ≡ getD (a .marks .now) (l .i) 0
+    = getD-take (a .to) (a .marks .now) (l .i) 0 (omega arith) in (
+      omega arith,
+      at-step run run (take (a .to) (a .marks .now)) (l .i)
+          (omega (arith, length-take-le (a .to) (a .marks .now) (omega arith))) (run-step _ (λ z. c .if1 .left (sym same ∙ z))) ∙ l .inv .1,
+    )
 
 returns-2 : tie.Need-returns-2 Inv-loop μ-loop
 returns-2 c =
     let l = c .before .loop in
     let a = c .before .before .args in
     let e : l .i ≡ a .to = omega arith in
-    sym e ∙ sym (at-end run (take (a .to) (a .marks .now)) (l .i) refl (omega (arith, length-take-le (a .to) (a .marks .now) (omega arith)))) ∙ l .inv .1
+    sym e ∙ sym (at-end run (take (a .to) (a .marks .now)) (l .i) refl
+    (omega (arith, length-take-le (a .to) (a .marks .now) (omega arith)))) ∙ l .inv .1
 
 pub end-byte-spec : {M : Type 1} → statement M
 end-byte-spec =

@@ -20,7 +20,8 @@ returns c =
     let s = c .before .before .before in
     let a = s .args in
     let few = c .before .smaller in
-    run-found (a .form) (a .cells) (a .marks .now) (a .at) (a .most) (few .result) (c .end-byte .result) (s .pre .0) (s .pre .1) (few .ensures) (c .end-byte .ensures)
+    run-found (a .form) (a .cells) (a .marks .now) (a .at) (a .most) (few .result) (c .end-byte .result) (s .pre .0) (s .pre .1)
+    (few .ensures) (c .end-byte .ensures)
 
 pub run-end-spec : {M : Type 1} → statement M
 run-end-spec = tie.close (tie.spec (λ c. search needs) (λ c κs. search needs) (λ c. search needs) end-byte-requires returns)

@@ -14,27 +14,31 @@ slice-write-out-2 c = simp length-set (omega arith)
 put-pair-requires : tie.Need-put-pair-requires
 put-pair-requires c κs = simp length-set (omega arith)
 
--- the output keeps its length, stage by stage
-after-count : (c : tie.After-put-pair) → length (c .put-pair .last .0) ≡ length (c .before .before .before .before .before .before .args .out .now)
+-- the call, from behind each field
+abbrev behind-count : tie.After-put-pair → tie.Start
+behind-count c = c .before .before .before .before .before .before
+
+abbrev behind-address : tie.After-put-pairs → tie.Start
+behind-address c = behind-count (c .before .before .before .before)
+
+abbrev behind-bytes : tie.After-put-pairs2 → tie.Start
+behind-bytes c = behind-address (c .before .before .before .before)
+
+abbrev behind-check : tie.After-put-pair2 → tie.Start
+behind-check c = behind-bytes (c .before .before .before .before)
+
+-- the output keeps its length, field by field
+after-count : (c : tie.After-put-pair) → length (c .put-pair .last .0) ≡ length (behind-count c .args .out .now)
 after-count c = simp length-set at (c .put-pair .kept .0)
 
-after-address : (c : tie.After-put-pairs) → length (c .put-pairs .last .0) ≡ length
-    (c .before .before .before .before .before .before .before .before .before .before .args .out .now)
-after-address c =
-    let at-put-pair = c .before .before .before .before in
-    c .put-pairs .kept .0 ∙ after-count at-put-pair
+after-address : (c : tie.After-put-pairs) → length (c .put-pairs .last .0) ≡ length (behind-address c .args .out .now)
+after-address c = c .put-pairs .kept .0 ∙ after-count (c .before .before .before .before)
 
-after-bytes : (c : tie.After-put-pairs2) → length (c .put-pairs2 .last .0) ≡ length
-    (c .before .before .before .before .before .before .before .before .before .before .before .before .before .before .args .out .now)
-after-bytes c =
-    let at-put-pairs = c .before .before .before .before in
-    c .put-pairs2 .kept .0 ∙ after-address at-put-pairs
+after-bytes : (c : tie.After-put-pairs2) → length (c .put-pairs2 .last .0) ≡ length (behind-bytes c .args .out .now)
+after-bytes c = c .put-pairs2 .kept .0 ∙ after-address (c .before .before .before .before)
 
-after-check : (c : tie.After-put-pair2) → length (c .put-pair2 .last .0) ≡ length
-    (c .before .before .before .before .before .before .before .before .before .before .before .before .before .before .before .before .before .before .args .out .now)
-after-check c =
-    let at-put-pairs2 = c .before .before .before .before in
-    c .put-pair2 .kept .0 ∙ after-bytes at-put-pairs2
+after-check : (c : tie.After-put-pair2) → length (c .put-pair2 .last .0) ≡ length (behind-check c .args .out .now)
+after-check c = c .put-pair2 .kept .0 ∙ after-bytes (c .before .before .before .before)
 
 put-pairs-requires : tie.Need-put-pairs-requires
 put-pairs-requires c κs = omega (arith, after-count (c .before .before .before))

@@ -16,7 +16,8 @@ returns c =
     let line = lineOf (a .kind) (a .width) (a .address) (a .bytes .now) in (
       refl,
       rw (at-put-record .put-record .ensures)
-          (lent-over (a .at) _ (a .out .now) line (add-sub-cancel-left (a .at) _ ∙ sym (length-line (a .kind) (a .width) (a .address) (a .bytes .now)))),
+          (lent-over (a .at) _ (a .out .now) line (add-sub-cancel-left (a .at) _
+          ∙ sym (length-line (a .kind) (a .width) (a .address) (a .bytes .now)))),
     )
 
 pub put-line-spec : {M : Type 1} → statement M

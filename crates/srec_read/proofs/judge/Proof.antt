@@ -35,7 +35,8 @@ returns-2 : tie.Need-returns-2
 returns-2 c =
     let s = c .before .before .before in
     let a = call s .args in
-    rw (s .after-line .ensures) (passed-s0 (a .place) (a .state) (kind s) (a .address) (a .count) (sorted s .s0 (c .before .before .if1 .taken)) (c .if2 .left))
+    rw (s .after-line .ensures) (passed-s0 (a .place) (a .state) (kind s) (a .address) (a .count)
+    (sorted s .s0 (c .before .before .if1 .taken)) (c .if2 .left))
 
 returns-3 : tie.Need-returns-3
 returns-3 c =
@@ -47,7 +48,8 @@ returns-4 : tie.Need-returns-4
 returns-4 c =
     let s = c .before .before .before .before in
     let a = call s .args in
-    rw (s .after-line .ensures) (passed-s5 (a .place) (a .state) (kind s) (a .address) (a .count) (sorted s .s5 (c .before .before .if3 .taken)) (c .if4 .left))
+    rw (s .after-line .ensures) (passed-s5 (a .place) (a .state) (kind s) (a .address) (a .count)
+    (sorted s .s5 (c .before .before .if3 .taken)) (c .if4 .left))
 
 returns-5 : tie.Need-returns-5
 returns-5 c =

@@ -75,7 +75,8 @@ sized-at c =
     let k = row-6-inv _ (width (own c)) (length (chars (own c))) (n c) (h .type-known) six in
     record { head = h; digits = digits-at (counted (at-count c)); count-is = count-is (at-count c); six = six; long = k .0; least = k .1 }
 
-right-is : (c : tie.After-sum-pairs) → let e = c .before .before in 255 - c .sum-pairs .result % 256 ≡ wanted (chars (own e)) (width (own e)) (n e) (sized-at e)
+right-is : (c : tie.After-sum-pairs) → let e = c .before .before in
+    255 - c .sum-pairs .result % 256 ≡ wanted (chars (own e)) (width (own e)) (n e) (sized-at e)
 right-is c = rw add-sub-cancel-left at (ap (λ (s : ℕ). 255 - s % 256) (c .sum-pairs .ensures))
 
 returns : tie.Need-returns
@@ -147,7 +148,8 @@ returns-8 c =
     let w = width (own d) in
     let a : c .number-of .result ≡ number (bytes (take (2 * w) (drop 4 l))) = rw add-sub-cancel-left at (c .number-of .ensures) in
     ap (λ (x : ℕ). Good (getD l 1 0) x (n d - (w + 1))) a
-    ∙ good-record l w (n d) (sized-at d) (sym (at-byte-of2 .byte-of2 .ensures) ∙ at-if7 .if7 .left ∙ right-is (at-byte-of2 .before .before .before)) (call (own d) .args .place)
+    ∙ good-record l w (n d) (sized-at d) (sym (at-byte-of2 .byte-of2 .ensures) ∙ at-if7 .if7 .left
+    ∙ right-is (at-byte-of2 .before .before .before)) (call (own d) .args .place)
 
 pub read-record-spec : {M : Type 1} → statement M
 read-record-spec =

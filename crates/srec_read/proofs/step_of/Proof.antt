@@ -14,7 +14,8 @@ abbrev call : tie.After-read-record → tie.Start
 call c = c .before .before
 
 -- what a record that was read says
-got-at : (c : tie.After-answer) → Got (call (c .before .before) .args .chars .now) (c .answer .given .0 .0) (c .answer .given .0 .1 .0) (c .answer .given .0 .1 .1 .0)
+got-at : (c : tie.After-answer) → Got (call (c .before .before) .args .chars .now) (c .answer .given .0 .0) (c .answer .given .0 .1 .0)
+    (c .answer .given .0 .1 .1 .0)
 got-at c = got _ _ _ _ _ (sym (c .answer .given .1) ∙ c .before .before .read-record .ensures)
 
 returns : tie.Need-returns

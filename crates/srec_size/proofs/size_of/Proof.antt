@@ -20,7 +20,8 @@ abbrev Inv-loop : tie.InvT-loop
 Inv-loop base form marks cells entry records₀ marked₀ largest₀ i₀ records marked largest i =
     (i ≤ cells) × (records ≤ i) × (marked ≤ i) × (unmarked (drop i (flags form cells marks)) ≡ 0)
     × ((memory : List ℕ) → length memory ≡ cells
-    → Measured (shown (windowOf base memory (flags form cells marks))) (cellsFrom base memory (flags form cells marks) i) entry records marked largest)
+    → Measured (shown (windowOf base memory (flags form cells marks)))
+    (cellsFrom base memory (flags form cells marks) i) entry records marked largest)
 
 abbrev μ-loop : tie.MeasureT-loop
 μ-loop base form marks cells entry records₀ marked₀ largest₀ i₀ records marked largest i = cells - i
@@ -56,7 +57,8 @@ ends : (c : tie.After-run-end Inv-loop μ-loop)
     → (c .before .before .loop .i < c .run-end .result) × (c .run-end .result ≤ c .before .before .before .before .before .args .cells)
 ends c =
     let s = c .before .before .before .before .before in
-    let b = run-bounds follow (s .args .base) (own s) (c .before .before .loop .i) (c .run-end .result) (omega (arith, long s)) (c .before .before .loop .inv .3) (c .run-end .ensures) in
+    let b = run-bounds follow (s .args .base) (own s) (c .before .before .loop .i) (c .run-end .result) (omega (arith, long s))
+    (c .before .before .loop .inv .3) (c .run-end .ensures) in
     (b .0, omega (arith, b .1, long s))
 
 sub-marked : tie.Need-sub-marked Inv-loop μ-loop
@@ -79,11 +81,13 @@ next-marked-requires-2 c κs = (omega (arith, ends (c .before)), c .before .befo
 
 -- what is skipped behind it
 next : (c : tie.After-next-marked2 Inv-loop μ-loop)
-    → (c .before .before .run-end .result ≤ c .next-marked2 .result) × (c .next-marked2 .result ≤ c .before .before .before .before .before .before .before .args .cells)
+    → (c .before .before .run-end .result ≤ c .next-marked2 .result) ×
+    (c .next-marked2 .result ≤ c .before .before .before .before .before .before .before .args .cells)
     × (unmarked (drop (c .next-marked2 .result) (own (c .before .before .before .before .before .before .before))) ≡ 0)
 next c =
     let s = c .before .before .before .before .before .before .before in
-    let b = next-bounds (own s) (c .before .before .run-end .result) (c .next-marked2 .result) (omega (arith, ends (c .before .before), long s)) (c .next-marked2 .ensures) in
+    let b = next-bounds (own s) (c .before .before .run-end .result) (c .next-marked2 .result)
+    (omega (arith, ends (c .before .before), long s)) (c .next-marked2 .ensures) in
     (b .0, omega (arith, b .1, long s), b .2)
 
 loop-less : tie.Need-loop-less Inv-loop μ-loop

@@ -21,7 +21,8 @@ use Rattle.srec_write.proofs.put_cells.Tie as tie
 abbrev Inv-loop : tie.InvT-loop
 Inv-loop out₀ start base memory form marks width kind at₀ cells from₀ out at from =
     (from ≤ length memory) × (unmarked (drop from (flags form (length memory) marks)) ≡ 0)
-    × Pending (dataText width (shown (plain form (windowOf base memory marks)))) (dataText width (cellsFrom base memory (flags form (length memory) marks) from)) start at out₀ out
+    × Pending (dataText width (shown (plain form (windowOf base memory marks))))
+    (dataText width (cellsFrom base memory (flags form (length memory) marks) from)) start at out₀ out
 
 abbrev μ-loop : tie.MeasureT-loop
 μ-loop out₀ start base memory form marks width kind at₀ cells from₀ out at from = length memory - from
@@ -41,8 +42,12 @@ loop-holds : tie.Need-loop-holds Inv-loop μ-loop
 loop-holds c =
     let s = c .before .before .before .before in
     let a = s .args in
-    let n = next-bounds (own s) 0 (c .next-marked .result) (omega arith) (c .next-marked .ensures) in
-    (omega (arith, n .1, long s), n .2, data-start (a .base) (a .memory .now) (own s) (a .width) (long s) (c .next-marked .result) (a .start) (a .out .now) (c .next-marked .ensures))
+    let n = next-bounds (own s) 0 (c .next-marked .result) (omega arith) (c .next-marked .ensures) in (
+      omega (arith, n .1, long s),
+      n .2,
+      data-start (a .base) (a .memory .now) (own s) (a .width) (long s) (c .next-marked .result)
+          (a .start) (a .out .now) (c .next-marked .ensures),
+    )
 
 run-end-requires : tie.Need-run-end-requires Inv-loop μ-loop
 run-end-requires c κs =
@@ -51,11 +56,14 @@ run-end-requires c κs =
 
 -- a run has 1 to 16 cells
 ends : (c : tie.After-run-end Inv-loop μ-loop)
-    → (c .before .before .loop .from < c .run-end .result) × (c .run-end .result ≤ length (c .before .before .before .before .before .before .before .args .memory .now)) × (c .run-end .result ≤ c .before .before .loop .from + 16)
+    → (c .before .before .loop .from < c .run-end .result) ×
+    (c .run-end .result ≤ length (c .before .before .before .before .before .before .before .args .memory .now)) ×
+    (c .run-end .result ≤ c .before .before .loop .from + 16)
 unfolding follow
 ends c =
     let s = c .before .before .before .before .before .before .before in
-    let b = run-bounds follow (s .args .base) (own s) (c .before .before .loop .from) (c .run-end .result) (omega (arith, long s)) (c .before .before .loop .inv .1) (c .run-end .ensures) in
+    let b = run-bounds follow (s .args .base) (own s) (c .before .before .loop .from) (c .run-end .result) (omega (arith, long s))
+    (c .before .before .loop .inv .1) (c .run-end .ensures) in
     (b .0, omega (arith, b .1, long s), omega (arith, b .2))
 
 sub-put-line : tie.Need-sub-put-line Inv-loop μ-loop
@@ -81,21 +89,30 @@ put-line-requires c κs =
           (r .ensures) (a .start) (l .at) (a .out .now) (l .out) (s .pre .1) (l .inv .2),
     )
 
+-- behind a run that was written: where it ended, and the call
+abbrev ran : tie.After-next-marked2 Inv-loop μ-loop → tie.After-run-end Inv-loop μ-loop
+ran c = c .before .before .before .before .before .before
+
+abbrev behind-run : tie.After-next-marked2 Inv-loop μ-loop → tie.Start Inv-loop μ-loop
+behind-run c = ran c .before .before .before .before .before .before .before
+
 next-marked-requires-2 : tie.Need-next-marked-requires-2 Inv-loop μ-loop
-next-marked-requires-2 c κs = (omega (arith, ends (c .before .before .before .before .before)), c .before .before .before .before .before .before .before .before .before .before .before .before .pre .0 .1)
+next-marked-requires-2 c κs =
+    let at-run-end = c .before .before .before .before .before in
+    (omega (arith, ends at-run-end), at-run-end .before .before .before .before .before .before .before .pre .0 .1)
 
 -- what is skipped behind it
 next : (c : tie.After-next-marked2 Inv-loop μ-loop)
-    → (c .before .before .before .before .before .before .run-end .result ≤ c .next-marked2 .result) × (c .next-marked2 .result ≤ length (c .before .before .before .before .before .before .before .before .before .before .before .before .before .args .memory .now))
-    × (unmarked (drop (c .next-marked2 .result) (own (c .before .before .before .before .before .before .before .before .before .before .before .before .before))) ≡ 0)
+    → (ran c .run-end .result ≤ c .next-marked2 .result) × (c .next-marked2 .result ≤ length (behind-run c .args .memory .now))
+    × (unmarked (drop (c .next-marked2 .result) (own (behind-run c))) ≡ 0)
 next c =
-    let s = c .before .before .before .before .before .before .before .before .before .before .before .before .before in
-    let at-run-end = c .before .before .before .before .before .before in
-    let b = next-bounds (own s) (at-run-end .run-end .result) (c .next-marked2 .result) (omega (arith, ends at-run-end, long s)) (c .next-marked2 .ensures) in
+    let s = behind-run c in
+    let b = next-bounds (own s) (ran c .run-end .result) (c .next-marked2 .result) (omega (arith, ends (ran c), long s))
+    (c .next-marked2 .ensures) in
     (b .0, omega (arith, b .1, long s), b .2)
 
 loop-less : tie.Need-loop-less Inv-loop μ-loop
-loop-less c = omega (arith, ends (c .before .before .before .before .before .before), next c)
+loop-less c = omega (arith, ends (ran c), next c)
 
 loop-again : tie.Need-loop-again Inv-loop μ-loop
 loop-again c =

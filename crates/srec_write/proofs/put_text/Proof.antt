@@ -50,37 +50,48 @@ module _ (s : tie.Start) where
       pending-start whole (lineOf 48 2 0 (s .args .header .now) ++ from-data) 0 (s .args .out .now)
       (text-pieces window (s .args .header .now) (s .args .entry) (s .args .records) (s .args .width) (s .pre .1 .0) (s .pre .1 .1 .0))
 
+-- the call, from behind each piece
+abbrev behind-header : tie.After-put-line → tie.Start
+behind-header c = c .before .before .before .before .before .before
+
+abbrev behind-data : tie.After-put-cells → tie.Start
+behind-data c = behind-header (c .before .before .before .before)
+
+abbrev behind-count : tie.After-put-count → tie.Start
+behind-count c = behind-data (c .before .before .before .before)
+
+abbrev behind-last : tie.After-put-line2 → tie.Start
+behind-last c = behind-count (c .before .before .before .before .before)
+
 -- each piece is written
-after-header : (c : tie.After-put-line) → Left (c .before .before .before .before .before .before) (from-data (c .before .before .before .before .before .before)) (c .put-line .result) (c .put-line .last .0)
+after-header : (c : tie.After-put-line) → Left (behind-header c) (from-data (behind-header c)) (c .put-line .result) (c .put-line .last .0)
 after-header c =
-    let s = c .before .before .before .before .before .before in
+    let s = behind-header c in
     line-more (whole s) 48 2 0 (s .args .header .now) (from-data s) 0 0 (s .args .out .now) (s .args .out .now) (fits s) (at-start s)
     (c .put-line .result) (c .put-line .last .0) (c .put-line .ensures .0) (c .put-line .ensures .1) (c .put-line .kept .0)
 
-after-data : (c : tie.After-put-cells) → Left (c .before .before .before .before .before .before .before .before .before .before)
-    (from-count (c .before .before .before .before .before .before .before .before .before .before)) (c .put-cells .result)
-    (c .put-cells .last .0)
+after-data : (c : tie.After-put-cells) → Left (behind-data c) (from-count (behind-data c)) (c .put-cells .result) (c .put-cells .last .0)
 after-data c =
     let at-put-line = c .before .before .before .before in
-    let s = at-put-line .before .before .before .before .before .before in
+    let s = behind-data c in
     let p = at-put-line .put-line in
     pending-more (whole s) (dataText (s .args .width) (shown (window s))) (from-count s) 0 (p .result) (c .put-cells .result)
     (s .args .out .now) (p .last .0) (c .put-cells .last .0)
     (fits s) (after-header at-put-line) (c .put-cells .ensures .0) (c .put-cells .ensures .1) (c .put-cells .kept .0)
 
-after-count : (c : tie.After-put-count) → Left (c .before .before .before .before .before .before .before .before .before .before .before .before .before .before) (last (c .before .before .before .before .before .before .before .before .before .before .before .before .before .before) ++ []) (c .put-count .result) (c .put-count .last .0)
+after-count : (c : tie.After-put-count) → Left (behind-count c) (last (behind-count c) ++ []) (c .put-count .result) (c .put-count .last .0)
 after-count c =
     let at-put-cells = c .before .before .before .before in
-    let s = at-put-cells .before .before .before .before .before .before .before .before .before .before in
+    let s = behind-count c in
     let p = at-put-cells .put-cells in
     pending-more (whole s) (countText (s .args .records)) (last s ++ []) 0 (p .result) (c .put-count .result) (s .args .out .now)
     (p .last .0) (c .put-count .last .0)
     (fits s) (after-data at-put-cells) (c .put-count .ensures .0) (c .put-count .ensures .1) (c .put-count .kept .0)
 
-after-last : (c : tie.After-put-line2) → Left (c .before .before .before .before .before .before .before .before .before .before .before .before .before .before .before .before .before .before .before) [] (c .put-line2 .result) (c .put-line2 .last .0)
+after-last : (c : tie.After-put-line2) → Left (behind-last c) [] (c .put-line2 .result) (c .put-line2 .last .0)
 after-last c =
     let at-put-count = c .before .before .before .before .before in
-    let s = at-put-count .before .before .before .before .before .before .before .before .before .before .before .before .before .before in
+    let s = behind-last c in
     let p = at-put-count .put-count in
     line-more (whole s) (59 - s .args .width) (s .args .width) (s .args .entry) [] [] 0 (p .result) (s .args .out .now) (p .last .0)
     (fits s) (after-count at-put-count)
@@ -96,7 +107,7 @@ put-line-requires c κs =
 put-cells-requires : tie.Need-put-cells-requires
 put-cells-requires c κs =
     let at-put-line = c .before .before .before in
-    let s = at-put-line .before .before .before .before .before .before in
+    let s = behind-header at-put-line in
     let p = at-put-line .put-line in (
       (narrow s, s .pre .0 .0, s .pre .0 .1),
       pending-room (whole s) (dataText (s .args .width) (shown (window s))) (from-count s) 0 (p .result) (s .args .out .now) (p .last .0)
@@ -106,25 +117,25 @@ put-cells-requires c κs =
 put-count-requires : tie.Need-put-count-requires
 put-count-requires c κs =
     let at-put-cells = c .before .before .before in
-    let s = at-put-cells .before .before .before .before .before .before .before .before .before .before in
+    let s = behind-data at-put-cells in
     let p = at-put-cells .put-cells in
     pending-room (whole s) (countText (s .args .records)) (last s ++ []) 0 (p .result) (s .args .out .now) (p .last .0) (fits s)
     (after-data at-put-cells)
 
 sub-kind : tie.Need-sub-kind
 sub-kind c =
-    let s = c .before .before .before .before .before .before .before .before .before .before .before .before .before .before .before .before in
+    let s = behind-count (c .before .before) in
     omega (arith, narrow s)
 
 cast-kind : tie.Need-cast-kind
 cast-kind c =
-    let s = c .before .before .before .before .before .before .before .before .before .before .before .before .before .before .before .before in
+    let s = behind-count (c .before .before) in
     omega (arith, narrow s)
 
 put-line-requires-2 : tie.Need-put-line-requires-2
 put-line-requires-2 c κs =
     let at-put-count = c .before .before .before .before in
-    let s = at-put-count .before .before .before .before .before .before .before .before .before .before .before .before .before .before in
+    let s = behind-count at-put-count in
     let p = at-put-count .put-count in (
       (narrow s, omega (arith, narrow s)),
       line-room (whole s) (59 - s .args .width) (s .args .width) (s .args .entry) [] [] 0 (p .result) (s .args .out .now) (p .last .0)
@@ -134,7 +145,7 @@ put-line-requires-2 c κs =
 returns : tie.Need-returns
 returns c =
     let at-put-line2 = c .before .before in
-    let s = at-put-line2 .before .before .before .before .before .before .before .before .before .before .before .before .before .before .before .before .before .before .before in
+    let s = behind-last at-put-line2 in
     let p = at-put-line2 .put-line2 in
     pending-end (whole s) 0 (p .result) (s .args .out .now) (p .last .0) (after-last at-put-line2) .1
 

@@ -54,7 +54,8 @@ none c =
 returns : tie.Need-returns
 returns c =
     let s = c .before .before in
-    declines (given s) (refusal 1 0 0) (c .refused .result) (out s) (row-1 (given s) (s .is-allowed .ensures) (not-true _ (c .before .if1 .taken))) (c .refused .ensures)
+    declines (given s) (refusal 1 0 0) (c .refused .result) (out s)
+    (row-1 (given s) (s .is-allowed .ensures) (not-true _ (c .before .if1 .taken))) (c .refused .ensures)
 
 returns-2 : tie.Need-returns-2
 returns-2 c =
@@ -121,7 +122,8 @@ returns-5 c =
     let e = behind-16 (told at-entry) in
     let need = needed at-length in
     declines (asked (told at-entry)) (refusal 17 0 (length (text at-entry))) (c .refused5 .result) (out (e .before .before))
-    (row-17 (asked (told at-entry)) (allowed (e .before)) (e .if2 .left) (none (told at-entry)) (entry at-entry) (at-entry .entry .given .1) (omega (arith, need, c .before .if3 .taken)))
+    (row-17 (asked (told at-entry)) (allowed (e .before)) (e .if2 .left) (none (told at-entry)) (entry at-entry) (at-entry .entry .given .1)
+    (omega (arith, need, c .before .if3 .taken)))
     (rw need at (c .refused5 .ensures))
 
 put-text-requires : tie.Need-put-text-requires
@@ -134,7 +136,11 @@ put-text-requires c κs =
       (f .0, f .1, e .if2 .left),
       (
         ap (λ (z : Size). z .records) size,
-        (at-length .before .width-for .ensures ∙ ap (λ (z : Size). widthFor (z .largest)) size, omega (arith, needed at-length, c .before .if3 .left)),
+        (
+          at-length .before .width-for .ensures ∙ ap (λ (z : Size). widthFor (z .largest)) size,
+          omega
+              (arith, needed at-length, c .before .if3 .left),
+        ),
       ),
     )
 
@@ -146,8 +152,10 @@ returns-6 c =
     let at-entry = with-entry at-length in
     let e = behind-16 (told at-entry) in
     let need = needed at-length in
-    accepts (asked (told at-entry)) (text at-entry) (c .accepted .result) (out (e .before .before)) (at-put .put-text .last .0) (at-length .text-length .result)
-    (is-written (asked (told at-entry)) (allowed (e .before)) (e .if2 .left) (none (told at-entry)) (entry at-entry) (at-entry .entry .given .1) (omega (arith, need, at-if3 .if3 .left)))
+    accepts (asked (told at-entry)) (text at-entry) (c .accepted .result) (out (e .before .before)) (at-put .put-text .last .0)
+    (at-length .text-length .result)
+    (is-written (asked (told at-entry)) (allowed (e .before)) (e .if2 .left) (none (told at-entry)) (entry at-entry)
+    (at-entry .entry .given .1) (omega (arith, need, at-if3 .if3 .left)))
     need (c .accepted .ensures) (at-put .put-text .ensures)
 
 pub write-spec : {M : Type 1} → statement M

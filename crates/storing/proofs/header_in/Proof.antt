@@ -9,7 +9,8 @@ use Rattle.storing.proofs.header_in.Statement.{statement}
 use Rattle.storing.proofs.header_in.Tie as tie
 
 -- what the record says
-got-at : (c : tie.After-answer) → Got (c .before .before .before .before .args .chars .now) (c .answer .given .0 .0) (c .answer .given .0 .1 .0) (c .answer .given .0 .1 .1 .0)
+got-at : (c : tie.After-answer) → Got (c .before .before .before .before .args .chars .now) (c .answer .given .0 .0)
+    (c .answer .given .0 .1 .0) (c .answer .given .0 .1 .1 .0)
 got-at c = got _ _ _ _ _ (sym (c .answer .given .1) ∙ c .before .before .read-record .ensures)
 
 returns : tie.Need-returns
@@ -27,8 +28,12 @@ slice-aggregate-store-record c = let r = got-at (c .before .before .before) in s
 store-record-requires : tie.Need-store-record-requires
 store-record-requires c κs =
     let at-answer = c .before .before .before in
-    let r = got-at at-answer in
-    (at-answer .before .before .before .before .pre, search needs, omega (arith, r .fields .long, r .small .2, r .len, length-take-le _ zeros (r .small .1)))
+    let r = got-at at-answer in (
+      at-answer .before .before .before .before .pre,
+      search needs,
+      omega
+          (arith, r .fields .long, r .small .2, r .len, length-take-le _ zeros (r .small .1)),
+    )
 
 returns-3 : tie.Need-returns-3
 returns-3 c =

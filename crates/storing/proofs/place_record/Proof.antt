@@ -1,5 +1,5 @@
 -- `place_record` meets its contract: a record without data stores nothing, and another stores its data at its address less the base.
-use mathlib.Core.Path.{_≡_, sym, _∙_}
+use mathlib.Core.Path.{_≡_, sym, _∙_, subst}
 use Prim.Native.Nat.{ℕ, _+_, _-_, _≤_}
 use native.Mathlib.Nat.{add-sub-cancel-left}
 use native.Mathlib.Omega.{arith}
@@ -21,25 +21,32 @@ from c = c .number-of .result - call c .args .base
 abbrev n : tie.After-number-of → ℕ
 n c = c .before .before .before .byte-of .result - (c .before .before .before .before .before .before .width-of .result + 1)
 
+-- the same where the width is known, and where that is from behind the count
+abbrev own : tie.After-width-of → tie.Start
+own c = c .before .before .before .before .before .before
+
+abbrev typed : tie.After-byte-of → tie.After-width-of
+typed c = c .before .before .before
+
 -- the data record at hand, its number of data bytes, and its address
-data-at : (c : tie.After-width-of) → DataRecord (c .before .before .before .before .before .before .args .chars .now) (c .before .before .before .before .before .before .args .base) (length (c .before .before .before .before .before .before .args .memory .now)) (c .width-of .result)
+data-at : (c : tie.After-width-of)
+    → DataRecord (own c .args .chars .now) (own c .args .base) (length (own c .args .memory .now)) (c .width-of .result)
 data-at c =
-    rw (c .width-of .ensures .0)
-    (data-record _ _ _ (readable _ _ _ (c .before .before .before .before .before .before .pre .1)) (c .before .before .if1 .left) (c .before .if2 .left))
+    subst (DataRecord (own c .args .chars .now) (own c .args .base) (length (own c .args .memory .now))) (sym (c .width-of .ensures .0))
+    (data-record _ _ _ (readable _ _ _ (own c .pre .1)) (c .before .before .if1 .left) (c .before .if2 .left))
 
-count-at : (c : tie.After-byte-of) → c .byte-of .result - (c .before .before .before .width-of .result + 1) ≡ length (data-at (c .before .before .before) .ds)
-count-at c = omega (arith, c .byte-of .ensures ∙ data-at (c .before .before .before) .fields .count-is)
+count-at : (c : tie.After-byte-of) → c .byte-of .result - (typed c .width-of .result + 1) ≡ length (data-at (typed c) .ds)
+count-at c = omega (arith, c .byte-of .ensures ∙ data-at (typed c) .fields .count-is)
 
-address-at : (c : tie.After-number-of) → c .number-of .result ≡ data-at (c .before .before .before .before .before .before) .a
-address-at c = rw add-sub-cancel-left at (c .number-of .ensures) ∙ sym (data-at (c .before .before .before .before .before .before) .fields .address-is)
+address-at : (c : tie.After-number-of) → c .number-of .result ≡ data-at (typed (c .before .before .before)) .a
+address-at c = rw add-sub-cancel-left at (c .number-of .ensures) ∙ sym (data-at (typed (c .before .before .before)) .fields .address-is)
 
-window-at : (c : tie.Else3) → (c .before .before .before .before .before .before .before .before .before .before .args .base ≤ data-at
-    (c .before .before .before .before) .a) × (data-at (c .before .before .before .before) .a + length
-    (data-at (c .before .before .before .before) .ds) ≤ c .before .before .before .before .before .before .before .before .before .before .args .base + length (c .before .before .before .before .before .before .before .before .before .before .args .memory .now))
+-- it lies in the window
+window-at : (c : tie.Else3) → let d = data-at (typed (c .before)) in let a = own (typed (c .before)) .args in
+    (a .base ≤ d .a) × (d .a + length (d .ds) ≤ a .base + length (a .memory .now))
 window-at c =
-    let at-width-of = c .before .before .before .before in
-    let at-args = at-width-of .before .before .before .before .before .before in
-    in-window (at-args .args .memory .now) _ _ _ (data-at at-width-of) (λ z. c .if3 .left (count-at (c .before) ∙ z))
+    let at-width-of = typed (c .before) in
+    in-window (own at-width-of .args .memory .now) _ _ _ (data-at at-width-of) (λ z. c .if3 .left (count-at (c .before) ∙ z))
 
 shared-slice-read-kind : tie.Need-shared-slice-read-kind
 shared-slice-read-kind c = omega (arith, readable _ _ _ (c .before .before .before .pre .1) .fields .long)
@@ -48,7 +55,8 @@ returns : tie.Need-returns
 returns c = let s = c .before .before .before .before in no-data (s .args .memory .now) _ _ _ (readable _ _ _ (s .pre .1)) (inl (c .if1 .taken))
 
 returns-2 : tie.Need-returns-2
-returns-2 c = let s = c .before .before .before .before .before in no-data (s .args .memory .now) _ _ _ (readable _ _ _ (s .pre .1)) (inr (c .if2 .taken))
+returns-2 c = let s = c .before .before .before .before .before in
+    no-data (s .args .memory .now) _ _ _ (readable _ _ _ (s .pre .1)) (inr (c .if2 .taken))
 
 shared-slice-read-byte-of : tie.Need-shared-slice-read-byte-of
 shared-slice-read-byte-of c = omega (arith, data-at (c .before) .fields .long)
@@ -61,9 +69,8 @@ sub-count c = omega (arith, c .byte-of .ensures ∙ data-at (c .before .before .
 
 returns-3 : tie.Need-returns-3
 returns-3 c =
-    let at-width-of = c .before .before .before .before in
-    let at-args = at-width-of .before .before .before .before .before .before in
-    none-stored (at-args .args .memory .now) _ _ _ (data-at at-width-of) (sym (count-at (c .before)) ∙ c .if3 .taken)
+    let at-width-of = typed (c .before) in
+    none-stored (own at-width-of .args .memory .now) _ _ _ (data-at at-width-of) (sym (count-at (c .before)) ∙ c .if3 .taken)
 
 part-number-of-end : tie.Need-part-number-of-end
 part-number-of-end c = omega (arith, data-at (c .before .before .before .before) .fields .long)
@@ -75,9 +82,11 @@ part-store-record-end : tie.Need-part-store-record-end
 part-store-record-end c = omega (arith, address-at c, count-at (c .before .before .before), window-at (c .before .before))
 
 -- the part of memory that is lent has a byte for each data byte
-lent-at : (c : tie.After-number-of) → length (take (from c + n c - from c) (drop (from c) (call c .args .memory .now))) ≡ length (data-at (c .before .before .before .before .before .before) .ds)
+lent-at : (c : tie.After-number-of) → length (take (from c + n c - from c) (drop (from c) (call c .args .memory .now))) ≡ length
+    (data-at (c .before .before .before .before .before .before) .ds)
 lent-at c =
-    lent-length _ (from c) (n c) (omega (arith, address-at c, count-at (c .before .before .before), window-at (c .before .before))) ∙ count-at (c .before .before .before)
+    lent-length _ (from c) (n c) (omega (arith, address-at c, count-at (c .before .before .before), window-at (c .before .before)))
+    ∙ count-at (c .before .before .before)
 
 store-record-requires : tie.Need-store-record-requires
 store-record-requires c κs =
@@ -90,7 +99,8 @@ returns-4 c =
     let at-store-record = c .before .before in
     let at-number-of = at-store-record .before .before in
     let at-byte-of = at-number-of .before .before .before in
-    part-stored (call at-number-of .args .memory .now) _ _ _ (data-at (at-byte-of .before .before .before)) _ _ _ (address-at at-number-of) (count-at at-byte-of)
+    part-stored (call at-number-of .args .memory .now) _ _ _ (data-at (at-byte-of .before .before .before)) _ _ _ (address-at at-number-of)
+    (count-at at-byte-of)
     (lent-at at-number-of) (at-store-record .store-record .ensures)
 
 pub place-record-spec : {M : Type 1} → statement M

@@ -20,7 +20,8 @@ abbrev μ-loop : tie.MeasureT-loop
 μ-loop table text base memory₀ at₀ memory at = length text - at
 
 -- the record at hand
-next-at : (c : tie.After-found Inv-loop μ-loop) → Next isEnd (c .before .before .before .before .before .before .args .text .now) (c .before .before .before .loop .at) (c .found .given .0 .0) (c .found .given .0 .1 .0)
+next-at : (c : tie.After-found Inv-loop μ-loop) → Next isEnd (c .before .before .before .before .before .before .args .text .now)
+    (c .before .before .before .loop .at) (c .found .given .0 .0) (c .found .given .0 .1 .0)
 next-at c =
     let l = c .before .before .before in
     next-is isEnd _ _ _ _ (storing-inside srec _ _ _ _ _ (l .loop .inv .1)) (sym (c .found .given .1) ∙ c .before .before .next-counted .ensures)
