@@ -1,50 +1,41 @@
-/* compare [--quick] [ROUNDS]: the library and its twins on the same texts, in turn, in one process.
+/* compare [--quick] [--lines] [ROUNDS]: the library and its twins on the same texts, in turn, in one process.
  *
  * Prints Markdown tables. A time is the minimum over ROUNDS rounds. A round goes through all texts, and on each text
  * through all programs, so that a disturbance of some seconds hits all of them, and one round alone. Before they are
  * timed all programs must give equal results, else the exit status is 1. --quick leaves out texts above 1 MiB.
+ *
+ * --lines is for run.sh --places: the library and `tuned` alone, and for each text that is loaded and written one line
+ * of three fields with tabs between them, the text and the seconds of the two.
  */
-#define _POSIX_C_SOURCE 200809L
 #include <stdio.h>
 #include <stdlib.h>
 #include <string.h>
-#include <time.h>
 
-#include "generate.h"
-#include "srec.h"
-#include "twin.h"
+#include "programs.h"
 
-enum { MIB = 1 << 20, ROUNDS = 5, MOST_ROUNDS = 10000 };
-/* In a round texts below SMALL MiB run MORE times: their time is short, and a disturbance is a large part of it. */
-enum { SMALL = 16, MORE = 4 };
-enum { UNEQUAL = 1, TROUBLE = 2 };
-enum { LIBRARY, PLAIN, TABLE, TUNED, PROGRAMS };
+enum { ROUNDS = 5, MOST_ROUNDS = 10000 };
 enum { LOAD, WRITE, OPERATIONS };
 
-static const uint32_t base = 0, entry = 0;
+/* A set of programs has the bit 1 << program for each. */
+enum { ALL = (1 << PROGRAMS) - 1, LIBRARY_ALONE = 1 << LIBRARY, LIBRARY_AND_TUNED = 1 << LIBRARY | 1 << TUNED };
 
-static const struct program {
-    const char *name;
-    load_function *load;
-    write_function *write;
-} programs[PROGRAMS] = {
-    {"library", srec_load, srec_write},
-    {"plain", plain_load, plain_write},
-    {"table", table_load, table_write},
-    {"tuned", tuned_load, tuned_write},
-};
+static const uint32_t entry = 0;
+
 static const char *const operations[OPERATIONS] = {"load", "write"};
 static const char *const orders[] = {"in order", "sparse", "shuffled"};
 
-/* A text, and the best times in seconds of the first so many programs on it. */
+/* A text, and the best times in seconds of a set of programs on it. */
 struct trial {
     enum order order;
     size_t mib;
     size_t size;
-    int programs;
+    unsigned set;
     struct text text;
     double best[OPERATIONS][PROGRAMS];
 };
+
+/* There are twelve texts to compare on. */
+enum { TEXTS = 12 };
 
 /* ---- running ---- */
 
@@ -54,18 +45,6 @@ struct buffers {
     uint8_t *marks;
     uint8_t *out;
 };
-
-/* Filled, so that no page is met for the first time while the clock runs. */
-static uint8_t *allocate(size_t length)
-{
-    uint8_t *bytes = malloc(length);
-    if (!bytes) {
-        fputs("compare: out of memory\n", stderr);
-        exit(TROUBLE);
-    }
-    memset(bytes, 0xA5, length);
-    return bytes;
-}
 
 static struct buffers allocate_buffers(const struct trial *trials, size_t number)
 {
@@ -86,35 +65,27 @@ static void free_buffers(struct buffers *buffers)
     free(buffers->out);
 }
 
-static uint32_t run_load(int program, const struct text *text, struct buffers *buffers)
+static int runs(const struct trial *trial, int program)
 {
-    return programs[program].load(text->chars, text->length, base, buffers->memory, text->cells, buffers->marks,
-                                  text->cells);
+    return trial->set >> program & 1;
 }
 
 static size_t run_write(int program, const struct text *text, struct buffers *buffers)
 {
-    return programs[program].write(base, buffers->memory, text->cells, buffers->marks, text->cells, header,
+    return programs[program].write(BASE, buffers->memory, text->cells, buffers->marks, text->cells, header,
                                    sizeof header, entry, buffers->out, text->room);
 }
 
 /* ---- checking ---- */
 
-static void expect(int holds, int program, const char *what)
-{
-    if (!holds) {
-        fprintf(stderr, "compare: %s: %s\n", programs[program].name, what);
-        exit(UNEQUAL);
-    }
-}
-
 /* Runs a program in buffers that hold nothing of an earlier run, and returns the length of its text. */
 static size_t run_afresh(int program, const struct text *text, struct buffers *buffers)
 {
-    memset(buffers->memory, 0xA5, text->cells);
-    memset(buffers->marks, 0xA5, text->cells);
-    memset(buffers->out, 0xA5, text->room);
-    expect(run_load(program, text, buffers) == 0, program, "refuses to load");
+    memset(buffers->memory, FILL, text->cells);
+    memset(buffers->marks, FILL, text->cells);
+    memset(buffers->out, FILL, text->room);
+    uint32_t row = run_load(program, text, buffers->memory, buffers->marks, text->cells);
+    expect(row == 0, program, "refuses to load");
     size_t length = run_write(program, text, buffers);
     expect(length != 0, program, "refuses to write");
     return length;
@@ -125,12 +96,11 @@ static void check(const struct trial *trial, struct buffers *expected, struct bu
 {
     const struct text *text = &trial->text;
     size_t expected_length = run_afresh(LIBRARY, text, expected);
-    size_t marked = 0;
 
-    for (size_t i = 0; i < text->cells; i++)
-        marked += expected->marks[i];
-    expect(marked == text->bytes, LIBRARY, "wrong number of marks");
-    for (int program = PLAIN; program < trial->programs; program++) {
+    expect(count_marks(expected->marks, text->cells) == text->bytes, LIBRARY, "wrong number of marks");
+    for (int program = PLAIN; program < PROGRAMS; program++) {
+        if (!runs(trial, program))
+            continue;
         size_t length = run_afresh(program, text, buffers);
         expect(memcmp(buffers->memory, expected->memory, text->cells) == 0, program, "memory is not the library's");
         expect(memcmp(buffers->marks, expected->marks, text->cells) == 0, program, "marks are not the library's");
@@ -150,28 +120,18 @@ static void check_all(const struct trial *trials, size_t number, struct buffers 
 
 /* ---- timing ---- */
 
-static double now(void)
-{
-    struct timespec time;
-    clock_gettime(CLOCK_MONOTONIC, &time);
-    return (double)time.tv_sec + 1e-9 * (double)time.tv_nsec;
-}
-
-/* A best time of 0 is none yet. */
-static void keep_best(double *best, double seconds)
-{
-    if (*best == 0 || seconds < *best)
-        *best = seconds;
-}
-
 /* Times each program once, in turn. */
 static void measure(struct trial *trial, struct buffers *buffers)
 {
-    for (int program = 0; program < trial->programs; program++) {
+    const struct text *text = &trial->text;
+
+    for (int program = 0; program < PROGRAMS; program++) {
+        if (!runs(trial, program))
+            continue;
         double start = now();
-        uint32_t row = run_load(program, &trial->text, buffers);
+        uint32_t row = run_load(program, text, buffers->memory, buffers->marks, text->cells);
         double loaded = now();
-        size_t length = run_write(program, &trial->text, buffers);
+        size_t length = run_write(program, text, buffers);
         double written = now();
         expect(row == 0 && length != 0, program, "refuses what it accepted before");
         keep_best(&trial->best[LOAD][program], loaded - start);
@@ -182,7 +142,7 @@ static void measure(struct trial *trial, struct buffers *buffers)
 static void measure_all(struct trial *trials, size_t number, struct buffers *buffers, long rounds)
 {
     for (long round = 1; round <= rounds; round++) {
-        fprintf(stderr, "round %ld of %ld\n", round, rounds);
+        print_round(round, rounds);
         for (size_t i = 0; i < number; i++)
             for (int again = trials[i].mib < SMALL ? MORE : 1; again > 0; again--)
                 measure(&trials[i], buffers);
@@ -233,9 +193,15 @@ static void print_ranges(const struct trial *trials, size_t number)
     }
 }
 
-static void print_row(const struct trial *trial, int operation)
+/* The first columns of a row. */
+static void print_text(const struct trial *trial, int operation)
 {
     printf("| %-5s | %-8s | %2zu | %3zu |", operations[operation], orders[trial->order], trial->mib, trial->size);
+}
+
+static void print_row(const struct trial *trial, int operation)
+{
+    print_text(trial, operation);
     for (int twin = PLAIN; twin < PROGRAMS; twin++)
         printf(" %5.2f |", ratio(trial, operation, twin));
     for (int program = 0; program < PROGRAMS; program++)
@@ -243,17 +209,25 @@ static void print_row(const struct trial *trial, int operation)
     printf("\n");
 }
 
-static void compare(int quick, long rounds)
+/* Runs a set of programs on the texts to compare on, and returns how many there are. */
+static size_t run_texts(struct trial trials[TEXTS], unsigned set, int quick, long rounds)
 {
     static const size_t sizes[] = {16, 250};
-    struct trial trials[12] = {0};
     size_t number = 0;
 
     for (int order = IN_ORDER; order <= SHUFFLED; order++)
         for (size_t mib = 1; mib <= (quick ? 1 : 16); mib *= 16)
             for (int i = 0; i < 2; i++)
-                trials[number++] = (struct trial){.order = order, .mib = mib, .size = sizes[i], .programs = PROGRAMS};
+                trials[number++] = (struct trial){.order = order, .mib = mib, .size = sizes[i], .set = set};
     run(trials, number, rounds);
+    return number;
+}
+
+static void compare(int quick, long rounds)
+{
+    struct trial trials[TEXTS] = {0};
+    size_t number = run_texts(trials, ALL, quick, rounds);
+
     print_ranges(trials, number);
     printf("\nThe same for each text, and MB of data per second:\n\n");
     printf("| | order | MiB | record | times plain | times table | times tuned "
@@ -265,13 +239,26 @@ static void compare(int quick, long rounds)
     fflush(stdout);
 }
 
+static void print_lines(int quick, long rounds)
+{
+    struct trial trials[TEXTS] = {0};
+    size_t number = run_texts(trials, LIBRARY_AND_TUNED, quick, rounds);
+
+    for (int operation = 0; operation < OPERATIONS; operation++)
+        for (size_t i = 0; i < number; i++) {
+            const struct trial *trial = &trials[i];
+            print_text(trial, operation);
+            printf("\t%.9f\t%.9f\n", trial->best[operation][LIBRARY], trial->best[operation][TUNED]);
+        }
+}
+
 static void grow(int quick, long rounds)
 {
     struct trial trials[4] = {0};
     size_t number = 0;
 
     for (size_t mib = 1; mib <= (quick ? 1 : 64); mib *= 4)
-        trials[number++] = (struct trial){.order = IN_ORDER, .mib = mib, .size = 16, .programs = LIBRARY + 1};
+        trials[number++] = (struct trial){.order = IN_ORDER, .mib = mib, .size = 16, .set = LIBRARY_ALONE};
     run(trials, number, rounds);
     printf("\nGrowth: the library alone, in order, records of 16 bytes:\n\n");
     printf("| MiB | load MB/s | load ns/byte | write MB/s | write ns/byte |\n|--:|--:|--:|--:|--:|\n");
@@ -279,21 +266,38 @@ static void grow(int quick, long rounds)
         double load = speed(&trials[i], LOAD, LIBRARY), write = speed(&trials[i], WRITE, LIBRARY);
         printf("| %2zu | %5.0f | %5.2f | %5.0f | %5.2f |\n", trials[i].mib, load, 1e3 / load, write, 1e3 / write);
     }
+    fflush(stdout);
+}
+
+/* Is the next word this one? Then it is passed over. */
+static int take(char ***words, const char *word)
+{
+    if (!**words || strcmp(**words, word) != 0)
+        return 0;
+    ++*words;
+    return 1;
 }
 
 int main(int argc, char **argv)
 {
-    int quick = argc > 1 && strcmp(argv[1], "--quick") == 0;
-    const char *word = argc > 1 + quick ? argv[1 + quick] : NULL;
+    char **words = argv + (argc > 0);
+    int quick = take(&words, "--quick"), lines = take(&words, "--lines");
     char *end = "";
-    long rounds = word ? strtol(word, &end, 10) : ROUNDS;
+    long rounds = *words ? strtol(*words++, &end, 10) : ROUNDS;
 
-    if (argc > 2 + quick || *end != '\0' || rounds < 1 || rounds > MOST_ROUNDS) {
-        fputs("usage: compare [--quick] [ROUNDS]\n", stderr);
+    if (*words || *end != '\0' || rounds < 1 || rounds > MOST_ROUNDS) {
+        fputs("usage: compare [--quick] [--lines] [ROUNDS]\n", stderr);
         return TROUBLE;
     }
-    printf("Minimum of %ld rounds, of %ld below %d MiB.\n\n", rounds, MORE * rounds, SMALL);
+    if (lines) {
+        print_lines(quick, rounds);
+        return 0;
+    }
+    printf("Minimum of %ld rounds, of %ld below %d MiB and for refusals and small loads.\n\n", rounds, MORE * rounds,
+           SMALL);
     compare(quick, rounds);
     grow(quick, rounds);
+    refusals(quick, rounds);
+    small_loads(rounds);
     return 0;
 }

@@ -6,6 +6,8 @@
 
 const uint8_t header[3] = {'H', 'D', 'R'};
 
+static const char digits[] = "0123456789ABCDEF";
+
 /* The largest number of data records that an S5 can hold. */
 enum { LARGEST_COUNT = 65535 };
 
@@ -30,7 +32,6 @@ static uint64_t scramble(uint64_t state)
 
 static void put_byte(struct text *text, unsigned byte)
 {
-    static const char digits[] = "0123456789ABCDEF";
     text->chars[text->length++] = (uint8_t)digits[byte >> 4 & 15];
     text->chars[text->length++] = (uint8_t)digits[byte & 15];
 }
@@ -95,26 +96,66 @@ static size_t room_for(size_t runs, size_t run)
     return (lines + OTHER_LINES) * LINE + 2 * (runs * run + sizeof header);
 }
 
+/* Room for so many data records with so many data bytes, and no character yet. */
+static struct text start(size_t records, size_t bytes, size_t cells, size_t room)
+{
+    uint8_t *chars = allocate((records + OTHER_LINES) * LINE + 2 * (bytes + sizeof header));
+    return (struct text){chars, 0, bytes, cells, room, 0};
+}
+
+static void put_data(struct text *text, size_t number, size_t address, size_t count)
+{
+    uint8_t data[256];
+
+    draw_data(data, number);
+    text->last = text->length;
+    put_record(text, '3', 4, address, data, count);
+}
+
 struct text generate(enum order order, size_t bytes, size_t size)
 {
     size_t records = (bytes + size - 1) / size;
     size_t last = bytes - (records - 1) * size;
     size_t step = order == SPARSE ? 4 * size : size;
     size_t cells = (records - 1) * step + last;
-    uint8_t *chars = allocate((records + OTHER_LINES) * LINE + 2 * (bytes + sizeof header));
-    struct text text = {chars, 0, bytes, cells, order == SPARSE ? room_for(records, size) : room_for(1, bytes)};
+    struct text text = start(records, bytes, cells, order == SPARSE ? room_for(records, size) : room_for(1, bytes));
     uint32_t *numbers = draw_order(order, records);
 
     put_record(&text, '0', 2, 0, header, sizeof header);
-    for (size_t i = 0; i < records; i++) {
-        uint8_t data[256];
-        size_t number = numbers[i];
-        draw_data(data, number);
-        put_record(&text, '3', 4, number * step, data, number + 1 < records ? size : last);
-    }
+    for (size_t i = 0; i < records; i++)
+        put_data(&text, numbers[i], numbers[i] * step, numbers[i] + 1 < records ? size : last);
     if (records <= LARGEST_COUNT)
         put_record(&text, '5', 2, records, NULL, 0);
     put_record(&text, '7', 4, 0, NULL, 0);
     free(numbers);
     return text;
+}
+
+struct text generate_small(void)
+{
+    struct text text = start(2, 32, 32, room_for(1, 32));
+
+    put_record(&text, '0', 2, 0, header, sizeof header);
+    put_data(&text, 0, 0, 16);
+    put_data(&text, 1, 16, 16);
+    put_record(&text, '7', 4, 0, NULL, 0);
+    return text;
+}
+
+struct text generate_line(size_t length)
+{
+    struct text text = {allocate(length), length, 0, 0, 0, 0};
+
+    for (size_t i = 0; i < length; i++)
+        text.chars[i] = (uint8_t)digits[i & 15];
+    text.chars[0] = 'S';
+    text.chars[1] = '3';
+    return text;
+}
+
+void spoil(struct text *text, enum fault fault)
+{
+    /* Behind S3, the count and the address. */
+    uint8_t *digit = text->chars + text->last + 12;
+    *digit = fault == NO_DIGIT ? 'G' : *digit == '0' ? '1' : '0';
 }

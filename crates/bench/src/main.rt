@@ -24,7 +24,7 @@ fn print_refusal(refusal: Refusal) {
     io::print_decimal(STDOUT_FILENO, refusal.place as u64);
     if refusal.reason == MISMATCH {
         let mut digits = [0u8; 2];
-        hex::put_pair(&mut digits, 0, refusal.want);
+        hex_write::put_pair(&mut digits, 0, refusal.want);
         io::write_all(STDOUT_FILENO, b" want ");
         io::write_all(STDOUT_FILENO, &digits);
     }

@@ -1,13 +1,12 @@
 -- The checking pass over any format: one law for each answer and each way round its loop.
 use mathlib.Core.Path.{_≡_, refl, sym, ap, _∙_, subst}
-use Prim.Native.Nat.{ℕ, zero, suc, _+_, _-_, _≤_, _<_}
+use Prim.Native.Nat.{ℕ, zero, suc, _+_, _-_, _≤_}
 use native.Mathlib.Numerals.{add-one}
 use native.Mathlib.Omega.{arith}
 use mathlib.Core.Bool.{false}
 use mathlib.Core.List.{List, [], _∷_}
 use mathlib.Core.Logic.{⊎-elim}
-use lib.ListN.{length, drop, replicate, length-drop}
-use lib.Seq.{length-take-le}
+use lib.ListN.{length, drop, replicate}
 use Rattle.window.specs.declared.Refusal.{Refusal}
 use Rattle.window.specs.declared.Entry.{Entry}
 use Rattle.window.specs.Images.{Image, blank, marksOf}
@@ -28,7 +27,7 @@ use Rattle.text.specs.Scan.{State as ScanState, more, moreData, ended, located,
 use Rattle.text.specs.Scan.Step.{put}
 use Rattle.text.specs.Steps.{stateWith, asStep}
 use Rattle.text.specs.Formats.{Format, plan}
-use Rattle.text.proofs.FindLaws.{part, Next}
+use Rattle.text.proofs.FindLaws.{part, Next, next-long}
 use Rattle.text.proofs.FormatLaws.{Limits, Lawful, said as carried}
 use Rattle.text.proofs.StepLaws.{Counting, Says, step-says}
 use Rattle.text.proofs.TurnLaws.{Walk, walk-start, walk-none, walk-refused, walk-skip, walk-title, walk-ended, walk-store, walk-put}
@@ -97,22 +96,6 @@ module _ {F : Format} {L : Limits} (laws : Lawful F L)
     -- the characters of the line
     abbrev chars : List ℕ
     chars = part text from to
-
-    -- they are as many as lie from its start to its end
-    chars-long : length chars ≡ to - from
-    chars-long = length-take-le (to - from) (drop from text) (omega (arith, length-drop from text, x .high, x .some-chars))
-
-    -- the line ends within the text, and the numbers have room for it
-    pub fits : (most : ℕ) → length text < most
-        → (from + length chars < most) × ((n .number + 1 < most) × (n .records + 1 < most) × (n .cells + length chars < most))
-    fits most h = (
-      omega (arith, chars-long, x .some-chars, x .high),
-      (
-        omega (arith, g .few .0, x .low, x .some-chars, x .high),
-        omega (arith, g .few .1, x .low, x .some-chars, x .high),
-        omega (arith, g .few .2, chars-long, x .low, x .some-chars, x .high),
-      ),
-    )
 
     module _ {step : Step} (q : step ≡ asStep from (stateWith [] n) (F .step (stateWith [] n) chars)) where
       -- what the answer says of the step that the definitions take
@@ -237,5 +220,5 @@ module _ {F : Format} {L : Limits} (laws : Lawful F L)
             (d ∙ ap (stored form) ((λ i. claimed base (flags-now i) a (put-said .2 i)) ∙ claim-marks base (g .img) a ds granted)) (
               omega (arith, g .few .0, x .low, x .some-chars),
               omega (arith, g .few .1, x .low, x .some-chars),
-              omega (arith, g .few .2, data-fits, chars-long, x .low, x .some-chars),
+              omega (arith, g .few .2, data-fits, next-long (F .gap) x, x .low, x .some-chars),
             )

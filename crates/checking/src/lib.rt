@@ -3,6 +3,7 @@ use marks::Form;
 use text::Found;
 use text::State;
 use text::Step;
+use text::Taken;
 use window::Entry;
 use window::Refusal;
 ghost use mathlib.Core.Path.{_≡_};
@@ -62,7 +63,7 @@ fn ended(text: &[u8], at: usize, state: State, entry: Entry) -> Checked
 
 // Walks over the records of a text and marks the cells that they address, up to the first refusal.
 fn walk(
-    table: &[u8; 256],
+    table: &[u32; 256],
     text: &[u8],
     base: usize,
     form: Form,
@@ -76,11 +77,10 @@ fn walk(
     let mut state = text::start();
     let mut at: usize = 0;
     loop {
-        let found = srec_lines::next_record(text, at);
-        let Found::At { from, to } = found else {
+        let taken = srec_step::take_next(table, state, text, at);
+        let Taken::Line { from, to, step } = taken else {
             return refused(14, state.number, text.len());
         };
-        let step = srec_read::step_of(table, state, &text[from..to], from);
         match step {
             Step::Refuse(reason, place, want) => return unfit(state, reason, place, want),
             Step::Finish(next, entry) => return ended(text, to, next, entry),
@@ -104,7 +104,7 @@ fn walk(
 
 // Checks a text against a window of `cells` cells whose marks are all zero: marks the cells that it addresses, or none.
 pub fn check(
-    table: &[u8; 256],
+    table: &[u32; 256],
     text: &[u8],
     base: usize,
     form: Form,

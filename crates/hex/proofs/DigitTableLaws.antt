@@ -1,19 +1,20 @@
--- A digit by ranges, and the table of digits at each entry.
+-- A digit by ranges, the table of digits at each entry, and what a sum of entries tells.
 use mathlib.Core.Path.{_≡_, refl, sym, ap, _∙_}
-use Prim.Native.Nat.{ℕ, zero, suc, _+_, _-_, _%_, _≤_, _<_}
-use native.Mathlib.Nat.{add-zero, zero-add, add-suc, suc-add, not-suc-le-zero, le-of-suc-le-suc, mod-eq-of-lt}
+use Prim.Native.Nat.{ℕ, zero, suc, _+_, _-_, _*_, _/_, _%_, _≤_, _<_}
+use native.Mathlib.Nat.{add-zero, zero-add, add-suc, suc-add, not-suc-le-zero, le-of-suc-le-suc}
 use native.Mathlib.Numerals.{add-one}
 use native.Mathlib.Omega.{arith}
-use mathlib.Core.Bool.{true, false, and-false}
-use mathlib.Core.List.{List, [], _∷_, _++_}
-use lib.Dec.{leb, ltb}
-use lib.ListN.{length, getD, set, drop}
-use lib.Seq.{set-at, append-snoc, drop-cons}
-use borrow.Author.Tests.{le-leb, lt-leb, lt-ltb}
-use Rattle.hex.specs.Digits.{between, isHex, value}
-use Rattle.hex.specs.Tables.{digitOr16, tableFrom, digitTable}
-use Rattle.lists.proofs.TestLaws.{by-test}
-use Rattle.hex.proofs.DigitLaws.{value-small}
+use mathlib.Core.Bool.{true, false, and-false, not, _||_}
+use mathlib.Core.List.{List, [], _∷_}
+use lib.Dec.{T, leb, eqb, eqb→eq}
+use lib.ListN.{length, getD, drop, length-drop}
+use lib.Seq.{drop-cons}
+use borrow.Author.Tests.{le-leb, lt-leb}
+use Rattle.hex.specs.Digits.{between, isHex, value, byteOf, bytes, firstBad}
+use Rattle.hex.specs.Numbers.{sum}
+use Rattle.hex.specs.Tables.{digitOr16, tableFrom, weight, digitTable, weighed}
+use Rattle.lists.proofs.TestLaws.{by-test, below}
+use Rattle.hex.proofs.DigitLaws.{value-small, first-is}
 
 -- ---- ranges
 
@@ -52,12 +53,40 @@ pub no-digit : (c : ℕ) → between 48 57 c ≡ false → between 65 70 c ≡ f
 unfolding digitOr16 isHex value
 no-digit c p q r = rw (p, q, r)
 
--- ---- what an entry says
-
--- an entry is below 16 exactly where the character is a hex digit
-pub entry-digit : (c : ℕ) → ltb (digitOr16 c) 16 ≡ isHex c
+-- 16 means no digit
+pub hex-none : (c : ℕ) → digitOr16 c ≡ 16 → isHex c ≡ false
 unfolding digitOr16
-entry-digit c = by-test (isHex c) (λ e. rw e (lt-ltb (value c) 16 (value-small c))) (λ e. rw e)
+hex-none c h = by-test (isHex c) (λ e. absurd (let q : value c ≡ 16 = rw e at h in omega (arith, q, value-small c))) (λ e. e)
+
+-- and every other number a digit
+pub hex-some : (c : ℕ) → (digitOr16 c ≡ 16 → ⊥) → isHex c ≡ true
+unfolding digitOr16
+hex-some c h = by-test (isHex c) (λ e. e) (λ e. absurd (h (rw e)))
+
+-- ---- digits by arithmetic
+
+-- a digit's value: one computed test over all characters
+pub value-by-bits : (c : ℕ) → c < 256 → isHex c ≡ true → (c % 16 + c / 64 * 9) % 16 ≡ value c
+unfolding isHex value between
+value-by-bits c h e =
+    let t : T (not (isHex c) || eqb ((c % 16 + c / 64 * 9) % 16) (value c))
+    = below (λ c. not (isHex c) || eqb ((c % 16 + c / 64 * 9) % 16) (value c)) 256 tt c h in
+    eqb→eq ((c % 16 + c / 64 * 9) % 16) (value c) (rw e at t)
+
+-- ---- the table
+
+-- entry k of a table that begins with f at i is f at i + k
+table-at : (f : ℕ → ℕ) (i n k : ℕ) → k < n → getD (tableFrom f i n) k 0 ≡ f (i + k)
+table-at f i zero k h = absurd (not-suc-le-zero h)
+table-at f i (suc n) zero h = ap f (sym (add-zero i))
+table-at f i (suc n) (suc k) h = table-at f (suc i) n k (le-of-suc-le-suc h) ∙ ap f (suc-add i k ∙ sym (add-suc i k))
+
+-- the table has at c the weight of c
+pub weight-at : (c : ℕ) → c < 256 → getD digitTable c 0 ≡ weight c
+unfolding digitTable
+weight-at c h = table-at weight 0 256 c h ∙ ap weight (zero-add c)
+
+-- ---- what a weight says
 
 -- a character that is no hex digit has the value 0
 value-none : (c : ℕ) → isHex c ≡ false → value c ≡ 0
@@ -70,43 +99,64 @@ value-none c h =
     never : true ≡ false → ⊥
     never q = let z : _≡_ {A = ℕ} 0 1 = cc in omega arith
 
--- an entry modulo 16 is the value: 16 becomes 0 where there is no digit
-pub entry-value : (c : ℕ) → digitOr16 c % 16 ≡ value c
-unfolding digitOr16
-entry-value c =
-    by-test (isHex c) (λ e. rw e (mod-eq-of-lt (value-small c))) (λ e. rw (e, value-none c e))
+-- a digit's weight is its value
+weight-digit : (c : ℕ) → isHex c ≡ true → weight c ≡ value c
+unfolding weight
+weight-digit c e = rw e
 
--- ---- the table
+-- that of another character is far above
+weight-none : (c : ℕ) → isHex c ≡ false → weight c ≡ 131072
+unfolding weight
+weight-none c e = rw e
 
--- entry k of a table that begins with f at i is f at i + k
-table-at : (f : ℕ → ℕ) (i n k : ℕ) → k < n → getD (tableFrom f i n) k 0 ≡ f (i + k)
-table-at f i zero k h = absurd (not-suc-le-zero h)
-table-at f i (suc n) zero h = ap f (sym (add-zero i))
-table-at f i (suc n) (suc k) h = table-at f (suc i) n k (le-of-suc-le-suc h) ∙ ap f (suc-add i k ∙ sym (add-suc i k))
+-- no weight is above 131072
+pub weight-most : (c : ℕ) → weight c ≤ 131072
+weight-most c = by-test (isHex c) (λ e. omega (arith, weight-digit c e, value-small c)) (λ e. omega (arith, weight-none c e))
 
--- the table has at c the value of c, or 16 where c is no digit
-pub digit-at : (c : ℕ) → c < 256 → getD digitTable c 0 ≡ digitOr16 c
-unfolding digitTable
-digit-at c h = table-at digitOr16 0 256 c h ∙ ap digitOr16 (zero-add c)
+-- modulo 131072 a weight is the value
+weight-value : (c : ℕ) → weight c % 131072 ≡ value c
+weight-value c =
+    by-test (isHex c) (λ e. omega (arith, weight-digit c e, value-small c)) (λ e. omega (arith, weight-none c e, value-none c e))
 
--- ---- the table as a loop fills it
+-- the byte of a pair from its weights: 131072 is a multiple of 256
+pub weight-byte : (c d : ℕ) → (16 * weight c + weight d) % 256 ≡ byteOf c d
+weight-byte c d = omega (arith, weight-value c, weight-value d, value-small c, value-small d)
 
--- a table and the entry behind its last are a table of one entry more
-snoc-table : (f : ℕ → ℕ) (i n : ℕ) → tableFrom f i n ++ (f (i + n) ∷ []) ≡ tableFrom f i (suc n)
-snoc-table f i zero = rw (add-zero i)
-snoc-table f i (suc n) = ap {B = List ℕ} (λ (r : List ℕ). f i ∷ r) (rw (add-suc i n, ← (suc-add i n)) (snoc-table f (suc i) n))
+-- ---- weighing
 
--- a table of n entries has length n
-length-table : (f : ℕ → ℕ) (i n : ℕ) → length (tableFrom f i n) ≡ n
-length-table f i zero = refl
-length-table f i (suc n) = ap suc (length-table f (suc i) n)
+-- one pair more: a turn of `weigh`
+pub weigh-turn : (cs : List ℕ) (k : ℕ) → 2 * k + 1 < length cs
+    → weighed (drop (2 * k) cs) ≡ 16 * weight (getD cs (2 * k) 0) + weight (getD cs (2 * k + 1) 0) + weighed (drop (2 * (k + 1)) cs)
+weigh-turn cs k h =
+    let e : 2 * (k + 1) ≡ suc (suc (2 * k)) = omega arith in
+    rw (drop-cons cs (2 * k) 0 (omega arith), drop-cons cs (suc (2 * k)) 0 (omega arith), add-one (2 * k), e)
 
--- one entry more is filled in: a turn of `digit_table`
-pub table-more : (d : List ℕ) (i : ℕ) → i < length d
-    → set (tableFrom digitOr16 0 i ++ drop i d) i (digitOr16 i) ≡ tableFrom digitOr16 0 (i + 1) ++ drop (i + 1) d
-table-more d i h =
-    let last : tableFrom digitOr16 0 i ++ (digitOr16 i ∷ []) ≡ tableFrom digitOr16 0 (suc i) = rw zero-add at (snoc-table digitOr16 0 i) in
-    rw (drop-cons d i 0 h, add-one i)
-    (set-at (tableFrom digitOr16 0 i) (getD d i 0) (drop (suc i) d) (digitOr16 i) i (length-table digitOr16 0 i)
-    ∙ sym (append-snoc (tableFrom digitOr16 0 i) (digitOr16 i) (drop (suc i) d))
-    ∙ ap (λ (t : List ℕ). t ++ drop (suc i) d) last)
+-- no whole pair is left
+pub weigh-end : (cs : List ℕ) (k : ℕ) → length cs / 2 ≤ k → weighed (drop (2 * k) cs) ≡ 0
+weigh-end cs k h = short (drop (2 * k) cs) (omega (arith, length-drop (2 * k) cs))
+  where
+    short : (ds : List ℕ) → length ds < 2 → weighed ds ≡ 0
+    short [] h = refl
+    short (d ∷ []) h = refl
+    short (d ∷ e ∷ ds) h = absurd (omega arith)
+
+-- a weight below 131072 tells that all characters are digits
+pub weigh-tells : (n : ℕ) (cs : List ℕ) → length cs ≡ 2 * n → weighed cs < 131072 → length cs ≤ firstBad cs
+weigh-tells n [] l h = omega arith
+weigh-tells n (c ∷ []) l h = absurd (omega arith)
+weigh-tells zero (c ∷ d ∷ cs) l h = absurd (omega arith)
+weigh-tells (suc n) (c ∷ d ∷ cs) l h =
+    by-test (isHex c)
+    (λ e. by-test (isHex d)
+    (λ f. rw (e, f) (omega (arith, weigh-tells n cs (omega arith) (omega arith))))
+    (λ f. absurd (omega (arith, weight-none d f))))
+    (λ e. absurd (omega (arith, weight-none c e)))
+
+-- the weight of digits is the sum of their bytes
+pub weigh-sum : (cs : List ℕ) → length cs ≤ firstBad cs → weighed cs ≡ sum (bytes cs)
+weigh-sum [] h = refl
+weigh-sum (c ∷ []) h = refl
+weigh-sum (c ∷ d ∷ cs) h =
+    let f = first-is c (d ∷ cs) h in
+    let g = first-is d cs (f .1) in
+    omega (arith, weight-digit c (f .0), weight-digit d (g .0), weigh-sum cs (g .1))

@@ -2,4 +2,3 @@ pub mod DigitLaws
 pub mod NumberLaws
 pub mod DigitTableLaws
 pub mod PairLaws
-pub mod PutLaws

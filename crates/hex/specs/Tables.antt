@@ -1,5 +1,5 @@
--- What a table of digits holds.
-use Prim.Native.Nat.{ℕ, zero, suc}
+-- What a table of digits holds, and what its entries add up to.
+use Prim.Native.Nat.{ℕ, zero, suc, _+_, _*_}
 use mathlib.Core.Bool.{cond}
 use mathlib.Core.List.{List, [], _∷_}
 use Rattle.hex.specs.Digits.{isHex, value}
@@ -13,6 +13,16 @@ abbrev pub tableFrom : (ℕ → ℕ) → ℕ → ℕ → List ℕ
 tableFrom f i zero = []
 tableFrom f i (suc n) = f i ∷ tableFrom f (suc i) n
 
+-- the entry of a character: the value of a digit, 131072 for a character that is none
+unfoldable pub weight : ℕ → ℕ
+weight c = cond (isHex c) (value c) 131072
+
 -- one entry for each character
 unfoldable pub digitTable : List ℕ
-digitTable = tableFrom digitOr16 0 256
+digitTable = tableFrom weight 0 256
+
+-- the entries of pairs of characters, added up, 16 times that of the first; a last character without a partner is left out
+abbrev pub weighed : List ℕ → ℕ
+weighed [] = 0
+weighed (c ∷ []) = 0
+weighed (c ∷ d ∷ cs) = 16 * weight c + weight d + weighed cs

@@ -1,5 +1,5 @@
 -- Parts of a list.
-use mathlib.Core.Path.{_≡_}
+use mathlib.Core.Path.{_≡_, _∙_}
 use Prim.Native.Nat.{ℕ, zero, suc, _+_, _-_, _≤_, min}
 use native.Mathlib.Nat.{zero-add, add-sub-cancel-left}
 use native.Mathlib.Omega.{arith}
@@ -28,6 +28,10 @@ take-least k l =
     rw (e, take-all (length l) l (omega arith), take-all k l (omega (arith, ltb-true (length l) k t))))
     (λ t. let e : min k (length l) ≡ k = omega (arith, ltb-false (length l) k t) in rw e)
 
+-- how long the part from i up to j is
+pub part-long : (l : List ℕ) (i j : ℕ) → i ≤ j → j ≤ length l → length (take (j - i) (drop i l)) ≡ j - i
+part-long l i j h k = length-take-le (j - i) (drop i l) (omega (arith, length-drop i l))
+
 -- a part of n bytes that is lent has n bytes
 pub lent-length : (m : List ℕ) (from n : ℕ) → from + n ≤ length m → length (take (from + n - from) (drop from m)) ≡ n
-lent-length m from n h = rw (add-sub-cancel-left from n) (length-take-le n (drop from m) (omega (arith, length-drop from m)))
+lent-length m from n h = part-long m from (from + n) (omega arith) h ∙ add-sub-cancel-left from n

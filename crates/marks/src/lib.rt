@@ -1,11 +1,12 @@
 // A window's marks: cleared, claimed, and walked over. A function that reads or claims them is told how many cells the window has and
 // in which form their marks are stored, and promises what it does by the flags that the marks show, one number a cell.
 ghost use mathlib.Core.Path.{_≡_};
+ghost use mathlib.Core.Bool.{true};
 ghost use Prim.Native.Nat.{_+_, _≤_, min};
 ghost use lib.ListN.{length, take, drop, replicate};
 ghost use Rattle.window.specs.Marks.{isFree, claimRow, claimed};
 ghost use Rattle.window.specs.Walks.{unmarked, run, runOn};
-ghost use Rattle.window.specs.Windows.{firstBadMark};
+ghost use Rattle.window.specs.Windows.{firstBadMark, row16};
 ghost use Rattle.marks.specs.Forms.{flags, markBytes, stored, Tidy, badMark};
 
 // How the marks of a window are stored: a byte a cell.
@@ -18,6 +19,9 @@ pub enum Bad {
     At(usize),
     Nothing,
 }
+
+// So many marks are looked at together.
+const BLOCK: usize = 16;
 
 // Sets every byte of a part to a value.
 fn fill(part: &mut [u8], value: u8)
@@ -37,7 +41,7 @@ pub fn clear(marks: &mut [u8])
     fill(marks, 0);
 }
 
-// Is no mark of a part set? It looks at each, with no way out before the end: that is faster.
+// Is no mark of a few set? It looks at each, with no way out before the end: that is faster.
 fn is_free(part: &[u8]) -> bool
     ensures { λ r. ⌜ r ≡ isFree (now (part .entry)) ⌝ }
 {
@@ -48,6 +52,33 @@ fn is_free(part: &[u8]) -> bool
         i += 1;
     }
     any == 0
+}
+
+// A place up to which no mark byte from `at` on is set: blocks without one are passed whole.
+fn skip_free(marks: &[u8], at: usize) -> usize
+    requires { ⌜ at ≤ length (now marks) ⌝ }
+    ensures { λ r. ⌜ (r ≤ length (now (marks .entry))) × (r + unmarked (drop r (now (marks .entry))) ≡ at + unmarked (drop at (now (marks .entry)))) ⌝ }
+{
+    let mut i = at;
+    while BLOCK <= marks.len() - i {
+        let next = i + BLOCK;
+        if !is_free(&marks[i..next]) {
+            return i;
+        }
+        i = next;
+    }
+    i
+}
+
+// Is no mark of a part set? Short records fill a block or two, which are seen at once; on long ones the plain loop is faster.
+fn all_free(part: &[u8]) -> bool
+    ensures { λ r. ⌜ r ≡ isFree (now (part .entry)) ⌝ }
+{
+    if part.len() > 4 * BLOCK {
+        return is_free(part);
+    }
+    let rest = skip_free(part, 0);
+    is_free(&part[rest..])
 }
 
 // Rows 12 and 13 for `count` cells at an address: marks the cells and answers 0, or answers the row and marks nothing.
@@ -79,7 +110,7 @@ pub fn claim(
     let to = from + count;
     match form {
         Form::Bytes => {
-            if !is_free(&marks[from..to]) {
+            if !all_free(&marks[from..to]) {
                 return 13;
             }
             fill(&mut marks[from..to], 1);
@@ -93,7 +124,7 @@ fn next_byte(marks: &[u8], at: usize) -> usize
     requires { ⌜ at ≤ length (now marks) ⌝ }
     ensures { λ r. ⌜ r ≡ at + unmarked (drop at (now (marks .entry))) ⌝ }
 {
-    let mut i = at;
+    let mut i = skip_free(marks, at);
     while i < marks.len() {
         if marks[i] != 0 {
             return i;
@@ -120,11 +151,30 @@ fn smaller(a: usize, b: usize) -> usize
     if a < b { a } else { b }
 }
 
+// Is a part a block whose marks have a bit in common? Then each is set. A no says nothing.
+fn is_full(part: &[u8]) -> bool
+    ensures { λ r. ⌜ (r ≡ true → run (now (part .entry)) ≡ length (now (part .entry))) ⌝ }
+{
+    if part.len() != BLOCK {
+        return false;
+    }
+    let mut all: u8 = 255;
+    let mut i: usize = 0;
+    while i < BLOCK {
+        all = all & part[i];
+        i += 1;
+    }
+    all != 0
+}
+
 // The index of the first mark byte from `at` on, below `to`, that is not set; `to` where there is none.
 fn end_byte(marks: &[u8], at: usize, to: usize) -> usize
     requires { ⌜ (at ≤ to) × (to ≤ length (now marks)) ⌝ }
     ensures { λ r. ⌜ r ≡ at + run (drop at (take to (now (marks .entry)))) ⌝ }
 {
+    if is_full(&marks[at..to]) {
+        return to;
+    }
     let mut i = at;
     while i < to {
         if marks[i] == 0 {
@@ -160,6 +210,19 @@ fn bad_byte(marks: &[u8]) -> usize
     i
 }
 
+// Is a mark byte neither 0 nor 1? It looks at each, with no way out before the end: that is faster.
+fn has_bad(marks: &[u8]) -> bool
+    ensures { λ r. ⌜ r ≡ row16 (now (marks .entry)) ⌝ }
+{
+    let mut any: u8 = 0;
+    let mut i: usize = 0;
+    while i < marks.len() {
+        any = any | marks[i];
+        i += 1;
+    }
+    1 < any
+}
+
 // Row 16, with its place.
 pub fn first_bad(form: Form, marks: &[u8], cells: usize) -> Bad
     requires { ⌜ length (now marks) ≡ markBytes form cells ⌝ }
@@ -167,11 +230,11 @@ pub fn first_bad(form: Form, marks: &[u8], cells: usize) -> Bad
 {
     match form {
         Form::Bytes => {
-            let place = bad_byte(marks);
-            if place < cells {
-                return Bad::At(place);
+            if !has_bad(marks) {
+                return Bad::Nothing;
             }
-            return Bad::Nothing;
+            let place = bad_byte(marks);
+            return Bad::At(place);
         }
     }
 }

@@ -14,7 +14,7 @@ use Rattle.srec.specs.Reading.{checksum}
 use Rattle.srec.specs.Writing.{summed, recordWith, recordText}
 use Rattle.srec_encode.specs.Records.{lineWith, lineOf}
 use Rattle.lists.proofs.OverLaws.{over-two, over-next, over-store, over-all}
-use Rattle.hex.proofs.PutLaws.{digits-append, sum-append}
+use Rattle.hex_write.proofs.PutLaws.{digits-append, sum-append}
 
 -- the line that numbers describe is the record of the kind that has them, and LF
 pub line-text : (k : Kind) (a : ℕ) (ds : List ℕ) → lineOf (typeOf k) (width k) a ds ≡ recordText k a ds ++ (10 ∷ [])

@@ -12,7 +12,7 @@ fn check_byte(count: u8, address: &[u8], bytes: &[u8]) -> u8
     requires { ⌜ length (now address) + length (now bytes) ≤ 254 ⌝ }
     ensures { λ r. ⌜ r ≡ checksum (count ∷ now (address .entry) ++ now (bytes .entry)) ⌝ }
 {
-    let sum = count as u32 + hex::sum_bytes(address) + hex::sum_bytes(bytes);
+    let sum = count as u32 + hex_write::sum_bytes(address) + hex_write::sum_bytes(bytes);
     255 - (sum % 256) as u8
 }
 
@@ -31,10 +31,10 @@ fn put_fields(out: &mut [u8], kind: u8, address: &[u8], bytes: &[u8])
     let last = end + 2;
     out[0] = b'S';
     out[1] = kind;
-    hex::put_pair(out, 2, count);
-    hex::put_pairs(out, 4, address);
-    hex::put_pairs(out, middle, bytes);
-    hex::put_pair(out, end, check);
+    hex_write::put_pair(out, 2, count);
+    hex_write::put_pairs(out, 4, address);
+    hex_write::put_pairs(out, middle, bytes);
+    hex_write::put_pair(out, end, check);
     out[last] = b'\n';
 }
 
@@ -44,7 +44,7 @@ pub fn put_record(out: &mut [u8], kind: u8, width: usize, address: u32, bytes: &
     requires { ⌜ length (now out) ≡ 7 + 2 * width + 2 * length (now bytes) ⌝ }
     ensures { λ _. ⌜ now (out .exit) ≡ lineOf kind width address (now (bytes .entry)) ⌝ }
 {
-    let all = hex::bytes_of(address);
+    let all = hex_write::bytes_of(address);
     let from = 4 - width;
     put_fields(out, kind, &all[from..4], bytes);
 }

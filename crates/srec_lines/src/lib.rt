@@ -17,7 +17,7 @@ fn is_end(c: u8) -> bool
 }
 
 // How many line ends a text begins with.
-fn count_ends(text: &[u8]) -> usize
+pub fn count_ends(text: &[u8]) -> usize
     ensures { λ r. ⌜ (r ≡ leading isEnd (now (text .entry))) × (r ≤ length (now (text .entry))) ⌝ }
 {
     let mut i: usize = 0;
@@ -58,7 +58,7 @@ pub fn next_record(text: &[u8], at: usize) -> Found
 }
 
 // The first record from a place on, of a text whose records are as long as their counts say: it does not look for the end.
-pub fn next_counted(table: &[u8; 256], text: &[u8], at: usize) -> Found
+pub fn next_counted(table: &[u32; 256], text: &[u8], at: usize) -> Found
     requires { ⌜ (now table ≡ digitTable) × (at ≤ length (now text)) × LongAsCounted (lines isEnd at (drop at (now text))) ⌝ }
     ensures { λ r. ⌜ r ≡ found (lines isEnd at (drop at (now (text .entry)))) ⌝ }
 {
@@ -69,4 +69,26 @@ pub fn next_counted(table: &[u8; 256], text: &[u8], at: usize) -> Found
     let count = hex::byte_of(table, text[from + 2], text[from + 3]) as usize;
     let to = from + (4 + 2 * count);
     Found::At { from, to }
+}
+
+// Where a record that begins at a place ends by its count, if a record may end there: the text ends, or a line end stands there.
+// Otherwise the text's end. Whether a line end stands before, it does not ask.
+pub fn counted_end(table: &[u32; 256], text: &[u8], from: usize) -> usize
+    requires { ⌜ (now table ≡ digitTable) × (from ≤ length (now text)) ⌝ }
+    ensures { λ r. ⌜ (from ≤ r) × (r ≤ length (now (text .entry))) × (length (front isEnd (drop r (now (text .entry)))) ≡ 0) ⌝ }
+{
+    let end = text.len();
+    if end - from < 4 {
+        return end;
+    }
+    let pairs = hex::byte_of(table, text[from + 2], text[from + 3]) as usize;
+    let size = 4 + 2 * pairs;
+    if end - from <= size {
+        return end;
+    }
+    let to = from + size;
+    if !is_end(text[to]) {
+        return end;
+    }
+    to
 }

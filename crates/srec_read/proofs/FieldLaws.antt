@@ -8,8 +8,8 @@ use mathlib.Core.Option.{Option, none, some}
 use lib.Dec.{ltb, eqb}
 use lib.ListN.{length, getD, take, drop, length-drop}
 use lib.Seq.{getD-drop, length-take-le, drop-drop}
-use borrow.Author.Tests.{not-false}
-use Rattle.hex.specs.Digits.{byteOf, bytes}
+use borrow.Author.Tests.{eqb-true, ltb-false, not-false}
+use Rattle.hex.specs.Digits.{byteOf, bytes, firstBad}
 use Rattle.hex.specs.Numbers.{number}
 use Rattle.lists.proofs.TestLaws.{by-test, or-neither}
 use Rattle.hex.proofs.PairLaws.{byte-at, take-bytes, drop-bytes, length-bytes}
@@ -22,9 +22,11 @@ use Rattle.srec_read.specs.declared.Record.the-variants.{Good, Bad}
 use Rattle.srec_read.specs.Records.{asRecord}
 use Rattle.srec_read.proofs.KindLaws.{Known, known-kind, type-of-kind, row-6-inv}
 
--- what the characters of a good record say: its type, count, length, address and data bytes
+-- what the characters of a good record say: its letter, type, digits, count, length, address and data bytes
 pub record Fields (chars : List ℕ) (k : Kind) (a : ℕ) (ds : List ℕ) : Type 0 where
+  pub letter : getD chars 0 0 ≡ 83
   pub type-known : kindOf (getD chars 1 0) ≡ some k
+  pub digits : length (drop 2 chars) ≤ firstBad (drop 2 chars)
   pub count-is : byteOf (getD chars 2 0) (getD chars 3 0) ≡ width k + 1 + length ds
   pub long : length chars ≡ 4 + 2 * (width k + 1 + length ds)
   pub address-is : a ≡ number (bytes (take (2 * width k) (drop 4 chars)))
@@ -75,9 +77,12 @@ module _ (chars : List ℕ) where
           ∙ take-bytes (count - (width k + 1)) (drop (4 + 2 * width k) chars)
 
       -- a record of this kind has its fields
-      fields : kindOf (getD chars 1 0) ≡ some k → Fields chars k (addressIn k bs) (dataIn k bs)
-      fields type-known = record {
+      fields : getD chars 0 0 ≡ 83 → kindOf (getD chars 1 0) ≡ some k → length (drop 2 chars) ≤ firstBad (drop 2 chars)
+          → Fields chars k (addressIn k bs) (dataIn k bs)
+      fields letter type-known digits = record {
+        letter = letter;
         type-known = type-known;
+        digits = digits;
         count-is = count-at (omega arith) ∙ omega (arith, length-data);
         long = omega (arith, length-data);
         address-is = address-at;
@@ -88,16 +93,27 @@ module _ (chars : List ℕ) where
   abbrev kind : Kind
   kind = known (kindOf (getD chars 1 0))
 
-  -- a record that passes rows 4 and 6 has its fields
-  passed : row4 chars ≡ false → row6 kind (length chars) count ≡ false → Fields chars kind (addressIn kind bs) (dataIn kind bs)
+  -- a record that passes row 4 begins with S, and its type is in the table
+  pub past-4 : row4 chars ≡ false → (4 ≤ length chars) × (getD chars 0 0 ≡ 83) × (kindOf (getD chars 1 0) ≡ some kind)
   unfolding row4
-  passed four six =
+  past-4 four =
       let o : ((ltb (length chars) 4 || not (eqb (getD chars 0 0) 83)) ≡ false) × (not (isKnown (kindOf (getD chars 1 0))) ≡ false)
       = or-neither (ltb (length chars) 4 || not (eqb (getD chars 0 0) 83)) (not (isKnown (kindOf (getD chars 1 0)))) four in
-      let t : kindOf (getD chars 1 0) ≡ some kind = known-some (kindOf (getD chars 1 0)) (not-false (isKnown (kindOf (getD chars 1 0))) (o .1)) in
+      let h : (ltb (length chars) 4 ≡ false) × (not (eqb (getD chars 0 0) 83) ≡ false)
+      = or-neither (ltb (length chars) 4) (not (eqb (getD chars 0 0) 83)) (o .0) in (
+        ltb-false (length chars) 4 (h .0),
+        eqb-true (getD chars 0 0) 83 (not-false (eqb (getD chars 0 0) 83) (h .1)),
+        known-some (kindOf (getD chars 1 0)) (not-false (isKnown (kindOf (getD chars 1 0))) (o .1)),
+      )
+
+  -- a record that passes rows 4 to 6 has its fields
+  passed : row4 chars ≡ false → row5 chars ≡ false → row6 kind (length chars) count ≡ false → Fields chars kind (addressIn kind bs) (dataIn kind bs)
+  unfolding row5
+  passed four five six =
+      let p = past-4 four in
       let s : (length chars ≡ 4 + 2 * count) × (width kind + 1 ≤ count)
-      = row-6-inv (getD chars 1 0) (width kind) (length chars) count (known-kind (getD chars 1 0) kind t) six in
-      fields kind (s .0) (s .1) t
+      = row-6-inv (getD chars 1 0) (width kind) (length chars) count (known-kind (getD chars 1 0) kind (p .2)) six in
+      fields kind (s .0) (s .1) (p .1) (p .2) (ltb-false (firstBad (drop 2 chars)) (length (drop 2 chars)) five)
 
 -- a good record has its fields
 pub read-fields : (chars : List ℕ) (k : Kind) (a : ℕ) (ds : List ℕ) → read chars ≡ good k a ds → Fields chars k a ds
@@ -108,7 +124,7 @@ read-fields chars v a ds q =
     (λ t₄. by-test (row5 chars) (λ t. absurd (never (rw (t₃, t₄, t) at q)))
     (λ t₅. by-test (row6 (kind chars) (length chars) (count chars)) (λ t. absurd (never (rw (t₃, t₄, t₅, t) at q)))
     (λ t₆. by-test (row7 (bs chars)) (λ t. absurd (never (rw (t₃, t₄, t₅, t₆, t) at q)))
-    (λ t₇. same (passed chars t₄ t₆) (rw (t₃, t₄, t₅, t₆, t₇) at q))))))
+    (λ t₇. same (passed chars t₄ t₅ t₆) (rw (t₃, t₄, t₅, t₆, t₇) at q))))))
   where
     never : {f : Fault} → bad f ≡ good v a ds → ⊥
     never e = let z : _≡_ {A = ℕ} 0 1 = cc in omega arith

@@ -55,6 +55,10 @@ known-type c w q h = go (kindOf c) refl (kind-facts c)
         let v : width k ≡ w = sym (q ∙ ap widthOr0 e) in
         record { kind = k; is = e; type-is = f .0; width-is = v; low = omega (arith, f .1); high = omega (arith, f .2); data-is = f .3 }
 
+-- its address bytes, as `width_of` gives them
+pub known-width : {c w : ℕ} → Known c w → widthOr0 (kindOf c) ≡ w
+known-width t = ap widthOr0 (t .is) ∙ t .width-is
+
 -- the kind of a record that was read, by its type character
 pub known-kind : (c : ℕ) (k : Kind) → kindOf c ≡ some k → Known c (width k)
 known-kind c k e =

@@ -1,25 +1,29 @@
 -- Rows 3 to 7 by the characters of a record: one law for each answer of `read_record`.
-use mathlib.Core.Path.{_≡_, sym, ap, _∙_}
-use Prim.Native.Nat.{ℕ, _+_, _-_, _*_, _%_, _≤_, _<_}
+use mathlib.Core.Path.{_≡_, refl, sym, ap, _∙_}
+use Prim.Native.Nat.{ℕ, zero, suc, _+_, _-_, _*_, _%_, _≤_, _<_}
 use native.Mathlib.Nat.{add-zero, add-assoc}
 use native.Mathlib.Omega.{arith}
 use mathlib.Core.Bool.{true, false, cond, not}
-use mathlib.Core.List.{List}
-use mathlib.Core.Option.{none}
-use lib.Dec.{eqb}
+use mathlib.Core.List.{List, [], _∷_}
+use mathlib.Core.Option.{Option, none, some}
+use lib.Dec.{eqb, ltb}
 use lib.ListN.{length, getD, take, drop, length-drop}
 use lib.Seq.{getD-drop}
-use borrow.Author.Tests.{lt-ltb, le-ltb, eq-eqb, ne-eqb}
+use borrow.Author.Tests.{lt-ltb, le-ltb, ltb-false, eq-eqb, ne-eqb}
+use Rattle.lists.proofs.TestLaws.{by-test}
 use Rattle.hex.specs.Digits.{byteOf, bytes, firstBad}
 use Rattle.hex.specs.Numbers.{number, sum}
-use Rattle.hex.proofs.PairLaws.{byte-at, take-bytes}
-use Rattle.srec.specs.Kinds.{Kind, kindOf, known}
+use Rattle.hex.specs.Tables.{weighed}
+use Rattle.hex.proofs.DigitLaws.{value-small, digits-part}
+use Rattle.hex.proofs.DigitTableLaws.{weigh-sum}
+use Rattle.hex.proofs.PairLaws.{byte-at, take-bytes, length-bytes}
+use Rattle.srec.specs.Kinds.{Kind, kindOf, width, isKnown, known}
 use Rattle.srec.specs.Reading.{Read, fault, mismatch, right, checksum, row3, row4, row5, row6, row7, addressIn, dataIn, read}
 use Rattle.srec.specs.Reading.Read.{good, bad}
 use Rattle.srec_read.specs.declared.Record.the-variants.{Good, Bad}
-use Rattle.srec_read.specs.Records.{asRecord}
-use Rattle.srec_read.proofs.KindLaws.{Known}
-use Rattle.srec_read.proofs.FieldLaws.{bs, count, address-at, length-data}
+use Rattle.srec_read.specs.Records.{widthOr0, widthIn, asRecord}
+use Rattle.srec_read.proofs.KindLaws.{Known, known-type, known-kind, row-6-inv}
+use Rattle.srec_read.proofs.FieldLaws.{bs, count, past-4, address-at, length-data}
 
 -- a refusal at the record's first character
 pub at-place : (place : ℕ) {reason : ℕ} {r : Read} → fault reason 0 ≡ r → Bad reason place 0 ≡ asRecord place r
@@ -31,27 +35,65 @@ module _ (chars : List ℕ) where
   unfolding read row3
   row-3 h = rw (lt-ltb 514 (length chars) h)
 
-  -- it has fewer than 4 characters
-  pub row-4-short : length chars ≤ 514 → length chars < 4 → fault 4 0 ≡ read chars
-  unfolding read row3 row4
-  row-4-short h l = rw (le-ltb 514 (length chars) h, lt-ltb (length chars) 4 l)
-
-  -- it does not begin with S
-  pub row-4-letter : length chars ≤ 514 → 4 ≤ length chars → (getD chars 0 0 ≡ 83 → ⊥) → fault 4 0 ≡ read chars
-  unfolding read row3 row4
-  row-4-letter h l n = rw (le-ltb 514 (length chars) h, le-ltb (length chars) 4 l, ne-eqb (getD chars 0 0) 83 n)
-
-  -- its type is not in the table
-  pub row-4-type : length chars ≤ 514 → 4 ≤ length chars → getD chars 0 0 ≡ 83 → kindOf (getD chars 1 0) ≡ none → fault 4 0 ≡ read chars
-  unfolding read row3 row4
-  row-4-type h l s n = rw (le-ltb 514 (length chars) h, le-ltb (length chars) 4 l, eq-eqb (getD chars 0 0) 83 s, n)
-
   -- a record that passes rows 3 and 4, of a type with w address bytes
   pub record Head (w : ℕ) : Type 0 where
     pub short : length chars ≤ 514
     pub four : 4 ≤ length chars
     pub letter : getD chars 0 0 ≡ 83
     pub type-known : Known (getD chars 1 0) w
+
+  -- ---- the four answers of `width_in`
+
+  -- too many characters
+  pub width-long : 514 < length chars → 0 ≡ widthIn chars
+  unfolding widthIn row3
+  width-long h = rw (lt-ltb 514 (length chars) h)
+
+  -- too few
+  pub width-short : length chars ≤ 514 → length chars < 4 → 0 ≡ widthIn chars
+  unfolding widthIn row3 row4
+  width-short h l = rw (le-ltb 514 (length chars) h, lt-ltb (length chars) 4 l)
+
+  -- another first character
+  pub width-letter : length chars ≤ 514 → 4 ≤ length chars → (getD chars 0 0 ≡ 83 → ⊥) → 0 ≡ widthIn chars
+  unfolding widthIn row3 row4
+  width-letter h l n = rw (le-ltb 514 (length chars) h, le-ltb (length chars) 4 l, ne-eqb (getD chars 0 0) 83 n)
+
+  -- the type decides
+  pub width-type : length chars ≤ 514 → 4 ≤ length chars → getD chars 0 0 ≡ 83 → widthOr0 (kindOf (getD chars 1 0)) ≡ widthIn chars
+  unfolding widthIn row3 row4
+  width-type h l s = rw (le-ltb 514 (length chars) h, le-ltb (length chars) 4 l, eq-eqb (getD chars 0 0) 83 s) (go (kindOf (getD chars 1 0)))
+    where
+      go : (o : Option Kind) → widthOr0 o ≡ cond (not (isKnown o)) 0 (widthOr0 o)
+      go none = refl
+      go (some k) = refl
+
+  -- ---- what an answer of `width_in` says
+
+  -- not 0: rows 3 and 4 let the record pass
+  pub head-of : (w : ℕ) → w ≡ widthIn chars → (w ≡ 0 → ⊥) → Head w
+  unfolding widthIn row3
+  head-of w q z =
+      by-test (ltb 514 (length chars)) (λ t. absurd (z (q ∙ rw t)))
+      (λ t. by-test (row4 chars) (λ f. absurd (z (q ∙ rw (t, f))))
+      (λ f. let p = past-4 chars f in
+      record {
+        short = ltb-false 514 (length chars) t;
+        four = p .0;
+        letter = p .1;
+        type-known = known-type (getD chars 1 0) w (q ∙ rw (t, f)) z;
+      }))
+
+  -- 0: row 4 refuses it, or row 3
+  pub row-4 : (w : ℕ) → w ≡ widthIn chars → w ≡ 0 → length chars ≤ 514 → fault 4 0 ≡ read chars
+  unfolding widthIn row3 read
+  row-4 w q z h =
+      let three : ltb 514 (length chars) ≡ false = le-ltb 514 (length chars) h in
+      by-test (row4 chars) (λ t. rw (three, t))
+      (λ t. absurd (let k : Known (getD chars 1 0) (width (known (kindOf (getD chars 1 0)))) = known-kind (getD chars 1 0) _ (past-4 chars t .2) in
+      let e : w ≡ width (known (kindOf (getD chars 1 0)))
+      = q ∙ rw (three, t) (ap widthOr0 (past-4 chars t .2)) in
+      omega (arith, k .low, e, z)))
 
   module _ (w : ℕ) (h : Head w) where
     -- its kind
@@ -139,3 +181,34 @@ module _ (chars : List ℕ) (w n : ℕ) (z : Sized chars w n) where
       ∙ omega (arith, z .count-is, z .head .type-known .width-is) in
       (λ i. Good (sym (z .head .type-known .type-is) i) (sym a i) (sym d i))
       ∙ ap (asRecord place) (sym r)
+
+-- ---- by the sum, as `read_good` reads
+
+-- digits from the third character on
+pub sized : (chars : List ℕ) (w n : ℕ) → Head chars w → n ≡ count chars → row6 (known (kindOf (getD chars 1 0))) (length chars) n ≡ false
+    → length (drop 2 chars) ≤ firstBad (drop 2 chars) → Sized chars w n
+sized chars w n h c six digits =
+    let k : (length chars ≡ 4 + 2 * n) × (w + 1 ≤ n) = row-6-inv (getD chars 1 0) w (length chars) n (h .type-known) six in
+    record { head = h; digits = digits; count-is = c; six = six; long = k .0; least = k .1 }
+
+-- a sum of bytes, the last apart
+sum-last : (n : ℕ) (bs : List ℕ) → length bs ≡ suc n → sum bs ≡ sum (take n bs) + getD bs n 0
+sum-last n [] h = absurd (omega arith)
+sum-last zero (b ∷ []) h = omega arith
+sum-last zero (b ∷ c ∷ bs) h = absurd (omega arith)
+sum-last (suc n) (b ∷ bs) h = omega (arith, sum-last n bs (omega arith))
+
+module _ (chars : List ℕ) (w n : ℕ) (z : Sized chars w n) where
+  -- the weight of what the checksum covers gives the right one
+  pub wanted-by : 255 - weighed (take (2 * n) (drop 2 chars)) % 256 ≡ wanted chars w n z
+  wanted-by = ap (λ (s : ℕ). 255 - s % 256) (weigh-sum (take (2 * n) (drop 2 chars)) (digits-part (2 * n) 0 (drop 2 chars) (z .digits)))
+
+  -- a sum of all bytes that is 255 modulo 256 means that the checksum is right
+  pub checked : sum (bs chars) % 256 ≡ 255 → given chars w n z ≡ wanted chars w n z
+  checked e =
+      let two : length (drop 2 chars) ≡ 2 * suc n = omega (arith, z .long, length-drop 2 chars) in
+      let s : sum (bs chars) ≡ sum (take n (bs chars)) + getD (bs chars) n 0 = sum-last n (bs chars) (length-bytes (suc n) (drop 2 chars) two) in
+      let first : take n (bs chars) ≡ bytes (take (2 * n) (drop 2 chars)) = take-bytes n (drop 2 chars) in
+      let last : getD (bs chars) n 0 ≡ given chars w n z = ap (λ (j : ℕ). getD (bs chars) j 0) (z .count-is) ∙ check-at chars w n z in
+      let all-of : sum (bs chars) ≡ sum (bytes (take (2 * n) (drop 2 chars))) + given chars w n z = rw (first, last) at s in
+      omega (arith, all-of, e, value-small (getD chars (2 + 2 * n) 0), value-small (getD chars (2 + 2 * n + 1) 0))

@@ -1,19 +1,12 @@
-// One record: read (rows 3 to 7), and judged against what came before it (rows 8, 10 and 11, on numbers alone).
-use text::State;
-use text::Step;
-use window::Entry;
+// One record read: rows 3 to 7.
 ghost use mathlib.Core.Path.{_≡_};
-ghost use mathlib.Core.Bool.{true, not};
-ghost use Prim.Native.Nat.{_+_, _*_, _^_, _≤_, _<_};
-ghost use mathlib.Core.List.{[]};
-ghost use lib.ListN.{length, replicate};
+ghost use mathlib.Core.Bool.{not};
+ghost use Prim.Native.Nat.{_+_, _^_, _≤_, _<_};
+ghost use lib.ListN.{length};
 ghost use Rattle.hex.specs.Tables.{digitTable};
-ghost use Rattle.text.specs.Steps.{stateWith, asStep};
-ghost use Rattle.srec.specs.Kinds.{kindOf, isKnown, known};
+ghost use Rattle.srec.specs.Kinds.{kindOf, known};
 ghost use Rattle.srec.specs.Reading.{row6, read};
-ghost use Rattle.srec.specs.Judging.{judge as judgeScan};
-ghost use Rattle.srec.specs.Formats.{srec};
-ghost use Rattle.srec_read.specs.Records.{widthOr0, asRecord, refusing};
+ghost use Rattle.srec_read.specs.Records.{widthOr0, widthIn, asRecord, GoodIs};
 
 // A record's most and least characters: S, type, and the pairs of a count of 255, or of a count alone.
 const MOST_CHARS: usize = 514;
@@ -62,8 +55,25 @@ fn fits(kind: u8, width: usize, n: usize, count: usize) -> bool
     count == width + 1
 }
 
+// The address bytes of a record's type; 0 for a record that row 3 or 4 refuses.
+fn width_in(chars: &[u8]) -> usize
+    ensures { λ r. ⌜ (r ≡ widthIn (now (chars .entry))) × (r ≤ 4) ⌝ }
+{
+    let n = chars.len();
+    if n > MOST_CHARS {
+        return 0;
+    }
+    if n < LEAST_CHARS {
+        return 0;
+    }
+    if chars[0] != b'S' {
+        return 0;
+    }
+    width_of(chars[1])
+}
+
 // Reads a record that stands at a place of its text.
-pub fn read_record(table: &[u8; 256], chars: &[u8], place: usize) -> Record
+pub fn read_record(table: &[u32; 256], chars: &[u8], place: usize) -> Record
     requires { ⌜ (now table ≡ digitTable) × (place + length (now chars) < 2 ^ 64) ⌝ }
     ensures { λ r. ⌜ r ≡ asRecord place (read (now (chars .entry))) ⌝ }
 {
@@ -71,27 +81,21 @@ pub fn read_record(table: &[u8; 256], chars: &[u8], place: usize) -> Record
     if n > MOST_CHARS {
         return Record::Bad(3, place, 0);
     }
-    if n < LEAST_CHARS {
-        return Record::Bad(4, place, 0);
-    }
-    if chars[0] != b'S' {
-        return Record::Bad(4, place, 0);
-    }
-    let kind = chars[1];
-    let width = width_of(kind);
+    let width = width_in(chars);
     if width == 0 {
         return Record::Bad(4, place, 0);
     }
-    let wrong = hex::first_bad(table, &chars[2..]);
+    let wrong = hex::first_bad(&chars[2..]);
     if wrong < n - 2 {
         return Record::Bad(5, place + (2 + wrong), 0);
     }
+    let kind = chars[1];
     let count = hex::byte_of(table, chars[2], chars[3]) as usize;
     if !fits(kind, width, n, count) {
         return Record::Bad(6, place, 0);
     }
     let end = 2 + 2 * count;
-    let right = 255 - (hex::sum_pairs(table, &chars[2..end]) % 256) as u8;
+    let right = 255 - (hex::weigh(table, &chars[2..end]) % 256) as u8;
     let given = hex::byte_of(table, chars[end], chars[end + 1]);
     if given != right {
         return Record::Bad(7, place, right);
@@ -102,63 +106,30 @@ pub fn read_record(table: &[u8; 256], chars: &[u8], place: usize) -> Record
     Record::Good(kind, address, bytes)
 }
 
-// How many addresses `width` bytes hold.
-fn limit(width: usize) -> usize
-    requires { ⌜ (2 ≤ width) × (width ≤ 4) ⌝ }
-    ensures { λ r. ⌜ r ≡ 2 ^ (8 * width) ⌝ }
+// Reads a record that no row refuses, with one walk over its digits: their sum tells whether all are digits, and is that of the
+// bytes, which the checksum makes 255 modulo 256. Which row refuses a record it does not tell: `read_record` does.
+pub fn read_good(table: &[u32; 256], chars: &[u8]) -> Record
+    requires { ⌜ now table ≡ digitTable ⌝ }
+    ensures { λ r. ⌜ GoodIs r (read (now (chars .entry))) ⌝ }
 {
-    1usize << (8 * width)
-}
-
-// Rows 8, 10 and 11 for a record that was read, against what came before it.
-fn judge(state: State, kind: u8, address: u32, count: usize, place: usize) -> Step
-    requires { ⌜ (isKnown (kindOf kind) ≡ true) × (state .number + 1 < 2 ^ 64) × (state .records + 1 < 2 ^ 64) × (state .cells + count < 2 ^ 64) × (count < 2 ^ 32) ⌝ }
-    ensures { λ r. ⌜ r ≡ asStep place (stateWith [] state) (judgeScan (stateWith [] state) (known (kindOf kind)) address (replicate count 0)) ⌝ }
-{
-    let next = text::after_line(state);
-    if kind == b'0' {
-        if state.number != 0 {
-            return Step::Refuse(8, place, 0);
-        }
-        return Step::Pass(next);
+    let width = width_in(chars);
+    if width == 0 {
+        return Record::Bad(0, 0, 0);
     }
-    if kind == b'5' {
-        if address as usize != state.records {
-            return Step::Refuse(10, place, 0);
-        }
-        return Step::Pass(next);
+    let kind = chars[1];
+    let count = hex::byte_of(table, chars[2], chars[3]) as usize;
+    if !fits(kind, width, chars.len(), count) {
+        return Record::Bad(0, 0, 0);
     }
-    // S7 to S9 end the text; S1 to S3 are left
-    if kind > b'5' {
-        return Step::Finish(next, Entry::Present(address));
+    let sum = hex_sum::sum_digits(table, &chars[2..]);
+    if sum >= hex::NONE {
+        return Record::Bad(0, 0, 0);
     }
-    let width = width_of(kind);
-    if address as usize + count > limit(width) {
-        return Step::Refuse(11, place, 0);
+    if sum % 256 != 255 {
+        return Record::Bad(0, 0, 0);
     }
-    let more = text::after_data(state, count);
-    Step::Put(more, address, count)
-}
-
-// The refusal of a record that cannot be read; one that can be is never handed in.
-fn unread(answer: Record) -> Step
-    ensures { λ r. ⌜ r ≡ refusing answer ⌝ }
-{
-    match answer {
-        Record::Bad(reason, place, want) => Step::Refuse(reason, place, want),
-        Record::Good(_, _, _) => Step::Refuse(0, 0, 0),
-    }
-}
-
-// What a record does that stands at a place of its text, behind the records before it: rows 3 to 8, 10 and 11.
-pub fn step_of(table: &[u8; 256], state: State, chars: &[u8], place: usize) -> Step
-    requires { ⌜ (now table ≡ digitTable) × (place + length (now chars) < 2 ^ 64) ⌝ }
-    requires { ⌜ (state .number + 1 < 2 ^ 64) × (state .records + 1 < 2 ^ 64) × (state .cells + length (now chars) < 2 ^ 64) ⌝ }
-    ensures { λ r. ⌜ r ≡ asStep place (stateWith [] state) (srec .step (stateWith [] state) (now (chars .entry))) ⌝ }
-{
-    let answer = read_record(table, chars, place);
-    let Record::Good(kind, address, count) = answer else {
-        return unread(answer);
-    };
-    judge(state, kind, address, count, place)
+    let data = 4 + 2 * width;
+    let address = hex::number_of(table, &chars[4..data]);
+    let size = count - (width + 1);
+    Record::Good(kind, address, size)
 }

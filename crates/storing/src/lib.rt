@@ -6,7 +6,7 @@ ghost use mathlib.Core.Path.{_≡_};
 ghost use mathlib.Core.List.{[]};
 ghost use Prim.Native.Nat.{_+_, _*_, _≤_};
 ghost use lib.ListN.{length, take, drop};
-ghost use Rattle.hex.specs.Digits.{bytes};
+ghost use Rattle.hex.specs.Digits.{bytes, firstBad};
 ghost use Rattle.hex.specs.Tables.{digitTable};
 ghost use Rattle.window.specs.Images.{blank};
 ghost use Rattle.window.specs.Plans.{placed};
@@ -21,18 +21,19 @@ ghost use Rattle.srec.specs.Judging.{carried};
 ghost use Rattle.srec.specs.Formats.{srec};
 ghost use Rattle.storing.specs.Stores.{storedBy, Placeable, Accepts};
 
-// Stores the data bytes of a record, which stand behind its address, into the part that is lent for them.
-fn store_record(table: &[u8; 256], part: &mut [u8], chars: &[u8], width: usize)
+// Stores the data bytes of a record that was read, which stand behind its address, into the part that is lent for them.
+fn store_record(table: &[u32; 256], part: &mut [u8], chars: &[u8], width: usize)
     requires { ⌜ (now table ≡ digitTable) × (width ≤ 4) × (4 + 2 * width + 2 * length (now part) ≤ length (now chars)) ⌝ }
+    requires { ⌜ length (drop 2 (now chars)) ≤ firstBad (drop 2 (now chars)) ⌝ }
     ensures { λ _. ⌜ now (part .exit) ≡ bytes (take (2 * length (now (part .entry))) (drop (4 + 2 * width) (now (chars .entry)))) ⌝ }
 {
     let data = 4 + 2 * width;
     let end = data + 2 * part.len();
-    hex::store_pairs(table, part, &chars[data..end]);
+    hex_store::store_digits(table, part, &chars[data..end]);
 }
 
 // Stores the data of a record that was checked into the middle of memory, at its address less the base.
-fn place_record(table: &[u8; 256], base: usize, memory: &mut [u8], chars: &[u8])
+fn place_record(table: &[u32; 256], base: usize, memory: &mut [u8], chars: &[u8])
     requires { ⌜ (now table ≡ digitTable) × Placeable base (length (now memory)) (carried (read (now chars))) ⌝ }
     ensures { λ _. ⌜ now (memory .exit) ≡ storedBy base (now (memory .entry)) (carried (read (now (chars .entry)))) ⌝ }
 {
@@ -57,7 +58,7 @@ fn place_record(table: &[u8; 256], base: usize, memory: &mut [u8], chars: &[u8])
 }
 
 // Stores the data of every record of a text that was accepted.
-pub fn store_all(table: &[u8; 256], text: &[u8], base: usize, memory: &mut [u8])
+pub fn store_all(table: &[u32; 256], text: &[u8], base: usize, memory: &mut [u8])
     requires { ⌜ (now table ≡ digitTable) × Accepts (placed base (blank (length (now memory))) (plan srec (now text))) ⌝ }
     ensures { λ _. ⌜ now (memory .exit) ≡ memoryAfter (now (memory .entry)) (placed base (blank (length (now (memory .entry)))) (plan srec (now (text .entry)))) ⌝ }
 {
@@ -83,7 +84,7 @@ fn no_header() -> Header
 }
 
 // The header that a record holds: the data of an S0, or none.
-fn header_in(table: &[u8; 256], chars: &[u8]) -> Header
+fn header_in(table: &[u32; 256], chars: &[u8]) -> Header
     requires { ⌜ now table ≡ digitTable ⌝ }
     ensures { λ r. ⌜ r ≡ headerOf (headerIn (carried (read (now (chars .entry)))) []) ⌝ }
 {
@@ -100,7 +101,7 @@ fn header_in(table: &[u8; 256], chars: &[u8]) -> Header
 }
 
 // The header of a text: that of its first record.
-pub fn header_of(table: &[u8; 256], text: &[u8]) -> Header
+pub fn header_of(table: &[u32; 256], text: &[u8]) -> Header
     requires { ⌜ now table ≡ digitTable ⌝ }
     ensures { λ r. ⌜ r ≡ headerOf (firstHeader (srec .part) (lines isEnd 0 (now (text .entry)))) ⌝ }
 {

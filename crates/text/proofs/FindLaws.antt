@@ -1,18 +1,19 @@
 -- The lines of a text, as a loop comes to them: at a place, one after the other.
 use mathlib.Core.Path.{_≡_, refl, sym, ap, _∙_}
-use Prim.Native.Nat.{ℕ, suc, _+_, _-_, _≤_, _<_}
+use Prim.Native.Nat.{ℕ, zero, suc, _+_, _-_, _≤_, _<_}
 use native.Mathlib.Nat.{add-zero, add-suc, suc-add}
 use native.Mathlib.Omega.{arith}
 use mathlib.Core.Bool.{Bool, true}
 use mathlib.Core.List.{List, [], _∷_}
 use lib.Dec.{ltb}
-use lib.ListN.{length, take, drop, drop-of-length-le, length-drop}
-use lib.Seq.{drop-drop}
+use lib.ListN.{length, getD, take, drop, drop-of-length-le, length-drop}
+use lib.Seq.{drop-drop, drop-cons, drop-length, length-take-le}
 use borrow.Author.Tests.{ltb-true, ltb-false}
 use Rattle.lists.proofs.TestLaws.{by-test}
 use Rattle.text.specs.declared.Found.the-variants.{At, Nothing}
 use Rattle.text.specs.Lines.{Line, front, push, behind, lines}
 use Rattle.text.specs.Finds.{leading, found}
+use Rattle.text.proofs.LineLaws.{Free}
 
 -- the characters from i up to e
 abbrev pub part : List ℕ → ℕ → ℕ → List ℕ
@@ -102,6 +103,34 @@ module _ (gap : ℕ → Bool) where
     pub next-at : from < length text → At from to ≡ found (lines gap at (drop at text))
     next-at h = rw (one-line h) (ap (At from) (ap (λ (n : ℕ). from + n) (ap length chars-are)))
 
+  -- ---- a line whose end was not searched for
+
+  -- where a text ends a line may end
+  pub end-stops : (t : List ℕ) → length (front gap (drop (length t) t)) ≡ 0
+  end-stops t = rw (drop-length t)
+
+  -- so it may before a separator
+  pub gap-stops : (t : List ℕ) (i : ℕ) → i < length t → gap (getD t i 0) ≡ true → length (front gap (drop i t)) ≡ 0
+  gap-stops t i l e = rw (drop-cons t i 0 l, e)
+
+  -- n characters without a separator, up to a place where a line may end, are the stretch that a text begins with
+  front-long : (n : ℕ) (t : List ℕ) → n ≤ length t → Free gap (take n t) → length (front gap (drop n t)) ≡ 0 → length (front gap t) ≡ n
+  front-long zero t l k h = h
+  front-long (suc n) [] l k h = absurd (omega arith)
+  front-long (suc n) (c ∷ cs) l k h = rw (k .0) (ap suc (front-long n cs (omega arith) (k .1) h))
+
+  -- characters without a separator, from where the next line starts up to a place where a line may end, are the next line
+  pub next-free : (text : List ℕ) (at e : ℕ) → from text at < e → e ≤ length text → Free gap (part text (from text at) e)
+      → length (front gap (drop e text)) ≡ 0 → At (from text at) e ≡ found (lines gap at (drop at text))
+  next-free text at e l h k s =
+      let n : ℕ = e - from text at in
+      let f : from text at + n ≡ e = omega arith in
+      let g : length (front gap (drop n (drop (from text at) text))) ≡ 0 = rw (drop-drop n (from text at) text, f) s in
+      let c : length (front gap (drop (from text at) text)) ≡ n
+      = front-long n (drop (from text at) text) (omega (arith, length-drop (from text at) text)) k g in
+      let q : e ≡ to text at = omega (arith, c) in
+      ap (At (from text at)) q ∙ next-at text at (omega arith)
+
   -- ---- what a caller learns of an answer
 
   -- a next line stands from `from` to `to`, behind it the rest
@@ -110,6 +139,10 @@ module _ (gap : ℕ → Bool) where
     pub some-chars : from < to
     pub high : to ≤ length text
     pub is : lines gap at (drop at text) ≡ record { place = from; chars = part text from to } ∷ lines gap to (drop to text)
+
+  -- it has a character for each place from its start to its end
+  pub next-long : {text : List ℕ} {at from to : ℕ} → Next text at from to → length (part text from to) ≡ to - from
+  next-long {text} {at} {from} {to} x = length-take-le (to - from) (drop from text) (omega (arith, length-drop from text, x .high, x .some-chars))
 
   -- what `next_line` has found
   pub next-is : (text : List ℕ) (at f t : ℕ) → at ≤ length text → At f t ≡ found (lines gap at (drop at text)) → Next text at f t

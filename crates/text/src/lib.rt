@@ -29,6 +29,12 @@ pub enum Step {
     Finish(State, Entry),
 }
 
+// The next line of a text: where it stands, and what it does; or there is none.
+pub enum Taken {
+    Line { from: usize, to: usize, step: Step },
+    Nothing,
+}
+
 // Before the first line.
 pub fn start() -> State
     ensures { λ r. ⌜ r ≡ numbers startScan ⌝ }

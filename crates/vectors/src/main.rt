@@ -66,7 +66,7 @@ fn print_refusal(refusal: Refusal) {
     io::write_all(STDOUT_FILENO, b" at ");
     io::print_decimal(STDOUT_FILENO, refusal.place as u64);
     let mut digits = [0u8; 2];
-    hex::put_pair(&mut digits, 0, refusal.want);
+    hex_write::put_pair(&mut digits, 0, refusal.want);
     io::write_all(STDOUT_FILENO, b" want ");
     io::write_all(STDOUT_FILENO, &digits);
 }
@@ -127,7 +127,7 @@ fn run_text(base: u32, text: &[u8], memory: &mut [u8], marks: &mut [u8], out: &m
 }
 
 // Runs a text in the window that its heading gives.
-fn run_window(table: &[u8; 256], heading: &[u8], text: &[u8])
+fn run_window(table: &[u32; 256], heading: &[u8], text: &[u8])
     requires { ⌜ (now table ≡ digitTable) × (18 ≤ length (now heading)) ⌝ }
 {
     let base = hex::number_of(table, &heading[1..9]);
@@ -149,7 +149,7 @@ fn run_window(table: &[u8; 256], heading: &[u8], text: &[u8])
 }
 
 // Runs the first of some cases and returns how many characters it has.
-fn run_case(table: &[u8; 256], cases: &[u8]) -> usize
+fn run_case(table: &[u32; 256], cases: &[u8]) -> usize
     requires { ⌜ (now table ≡ digitTable) × (0 < length (now cases)) ⌝ }
     ensures { λ r. ⌜ (0 < r) × (r ≤ length (now (cases .entry))) ⌝ }
 {

@@ -1,15 +1,16 @@
 -- `walk` meets its contract. The loop's invariant: what is left to walk gives what the whole gives, and the marks show its image.
 -- Each way out and each way round is one law of CheckLaws.
 use mathlib.Core.Path.{_≡_, refl, sym, _∙_}
-use Prim.Native.Nat.{_+_, _-_, _^_, _<_}
+use Prim.Native.Nat.{ℕ, _+_, _-_, _^_, _<_}
 use native.Mathlib.Omega.{arith}
 use lib.ListN.{length}
-use Rattle.text.proofs.FindLaws.{Next, next-is}
+use Rattle.text.proofs.FindLaws.{Next}
+use Rattle.text.proofs.StepLaws.{stepAt, none-taken, line-taken}
 use Rattle.srec.specs.Lines.{isEnd}
 use Rattle.srec.specs.Formats.{srec}
 use Rattle.srec.proofs.SrecFormatLaws.{lawful}
-use Rattle.srec_read.proofs.JudgeLaws.{counting}
-use Rattle.checking.proofs.CheckLaws.{Going, going-start, tidy-now, row-14, fits, told-refused, last-few, told-ended, going-pass, told-claim, going-put}
+use Rattle.srec_step.proofs.JudgeLaws.{counting}
+use Rattle.checking.proofs.CheckLaws.{Going, going-start, tidy-now, row-14, told-refused, last-few, told-ended, going-pass, told-claim, going-put}
 use borrow.Author.Needs.{needs}
 use Rattle.checking.proofs.walk.Statement.{statement}
 use Rattle.checking.proofs.walk.Tie as tie
@@ -20,57 +21,54 @@ Inv-loop table text base form marks₀ cells state₀ at₀ marks state at = (le
 abbrev μ-loop : tie.MeasureT-loop
 μ-loop table text base form marks₀ cells state₀ at₀ marks state at = length text - at
 
--- places: the loop's head before the record at hand, the call, and the record before its step
-abbrev head : tie.After-found Inv-loop μ-loop → tie.At-loop Inv-loop μ-loop
+-- places: the loop's head before the record at hand, and the call
+abbrev head : tie.After-taken Inv-loop μ-loop → tie.At-loop Inv-loop μ-loop
 head c = c .before .before .before
 
 abbrev call : tie.At-loop Inv-loop μ-loop → tie.Start Inv-loop μ-loop
 call c = c .before .before .before .before
 
-abbrev line : tie.After-step-of Inv-loop μ-loop → tie.After-found Inv-loop μ-loop
-line c = c .before .before .before
+abbrev line : tie.After-known-told Inv-loop μ-loop → tie.After-taken Inv-loop μ-loop
+line c = c .before
 
-abbrev own : tie.After-step-of Inv-loop μ-loop → tie.At-loop Inv-loop μ-loop
+abbrev own : tie.After-known-told Inv-loop μ-loop → tie.At-loop Inv-loop μ-loop
 own c = head (line c)
 
--- the record at hand
-next-at : (c : tie.After-found Inv-loop μ-loop) → Next isEnd (call (head c) .args .text .now) (head c .loop .at) (c .found .given .0 .0)
-    (c .found .given .0 .1 .0)
-next-at c = next-is isEnd _ _ _ _ (head c .loop .inv .1 .walk .inside) (sym (c .found .given .1) ∙ c .before .before .next-record .ensures)
+-- the record at hand: where it stands, and its step
+abbrev from : tie.After-taken Inv-loop μ-loop → ℕ
+from c = c .taken .given .0 .0
+
+abbrev to : tie.After-taken Inv-loop μ-loop → ℕ
+to c = c .taken .given .0 .1 .0
+
+line-at : (c : tie.After-taken Inv-loop μ-loop)
+    → Next isEnd (call (head c) .args .text .now) (head c .loop .at) (from c) (to c)
+    × (c .taken .given .0 .1 .1 .0 ≡ stepAt srec (head c .loop .state) (call (head c) .args .text .now) (head c .loop .at) (from c) (to c))
+line-at c =
+    line-taken srec _ _ _ _ _ _ (head c .loop .inv .1 .walk .inside) (sym (c .taken .given .1) ∙ c .before .before .take-next .ensures)
 
 loop-holds : tie.Need-loop-holds Inv-loop μ-loop
 loop-holds c = (refl, rw (c .start .ensures) (going-start srec _ _ _ _ _ (c .before .before .before .pre .1)))
 
-next-record-requires : tie.Need-next-record-requires Inv-loop μ-loop
-next-record-requires c κs = c .loop .inv .1 .walk .inside
+take-next-requires : tie.Need-take-next-requires Inv-loop μ-loop
+take-next-requires c κs =
+    let g = c .loop .inv .1 in
+    (call c .pre .0, g .walk .inside, g .few .0, g .few .1, g .few .2)
 
 same-length : tie.Need-same-length Inv-loop μ-loop
 same-length c = c .before .before .before .before .loop .inv .0
 
 returns : tie.Need-returns Inv-loop μ-loop
 returns c =
-    let at-next-record = c .before .before .before in
-    rw (c .refused .ensures) (row-14 lawful counting (at-next-record .before .loop .inv .1) _
-    (sym (c .before .enum-told .given .1) ∙ at-next-record .next-record .ensures))
-
-sub-step-of : tie.Need-sub-step-of Inv-loop μ-loop
-sub-step-of c = omega (arith, next-at (c .before) .some-chars)
-
-part-step-of-start : tie.Need-part-step-of-start Inv-loop μ-loop
-part-step-of-start c = omega (arith, next-at (c .before) .some-chars, next-at (c .before) .high)
-
-part-step-of-end : tie.Need-part-step-of-end Inv-loop μ-loop
-part-step-of-end c = omega (arith, next-at (c .before) .high)
-
-step-of-requires : tie.Need-step-of-requires Inv-loop μ-loop
-step-of-requires c κs =
-    let at-found = c .before .before in
-    let f = fits lawful counting (head at-found .loop .inv .1) (next-at at-found) (2 ^ 64) (omega arith) in
-    ((call (head at-found) .pre .0, f .0), f .1)
+    let at-take-next = c .before .before .before in
+    let l = at-take-next .before in
+    rw (c .refused .ensures) (row-14 lawful counting (l .loop .inv .1) _
+    (none-taken srec (l .loop .state) (call l .args .text .now) (l .loop .at)
+    (sym (c .before .enum-told .given .1) ∙ at-take-next .take-next .ensures)))
 
 -- the number of the record fits
-number-fits : (c : tie.After-step-of Inv-loop μ-loop) → own c .loop .state .number + 1 < 2 ^ 64
-number-fits c = let x = next-at (line c) in omega (arith, own c .loop .inv .1 .few .0, x .low, x .some-chars, x .high)
+number-fits : (c : tie.After-known-told Inv-loop μ-loop) → own c .loop .state .number + 1 < 2 ^ 64
+number-fits c = let x = line-at (line c) .0 in omega (arith, own c .loop .inv .1 .few .0, x .low, x .some-chars, x .high)
 
 unfit-requires : tie.Need-unfit-requires Inv-loop μ-loop
 unfit-requires c κs = number-fits (c .before .before .before)
@@ -82,12 +80,12 @@ returns-2 : tie.Need-returns-2 Inv-loop μ-loop
 returns-2 c =
     let at-step = c .before .before in
     let j = at-step .before .before in
-    rw (c .unfit .ensures) (told-refused lawful counting (own j .loop .inv .1) (next-at (line j)) (j .step-of .ensures) _ (at-step .step .given .1))
+    rw (c .unfit .ensures) (told-refused lawful counting (own j .loop .inv .1) (line-at (line j) .0) (line-at (line j) .1) _ (at-step .step .given .1))
 
 ended-requires : tie.Need-ended-requires Inv-loop μ-loop
 ended-requires c κs =
     let j = c .before .before .before in
-    (next-at (line j) .high, last-few lawful counting (own j .loop .inv .1) (next-at (line j)) (j .step-of .ensures) (c .before .step2 .given .1))
+    (line-at (line j) .0 .high, last-few lawful counting (own j .loop .inv .1) (line-at (line j) .0) (line-at (line j) .1) (c .before .step2 .given .1))
 
 same-length-3 : tie.Need-same-length-3 Inv-loop μ-loop
 same-length-3 c = own (c .before .before .before .before) .loop .inv .0
@@ -96,23 +94,23 @@ returns-3 : tie.Need-returns-3 Inv-loop μ-loop
 returns-3 c =
     let at-step = c .before .before in
     let j = at-step .before .before in
-    rw (c .ended .ensures) (told-ended lawful counting (own j .loop .inv .1) (next-at (line j)) (j .step-of .ensures)
+    rw (c .ended .ensures) (told-ended lawful counting (own j .loop .inv .1) (line-at (line j) .0) (line-at (line j) .1)
     (at-step .step2 .given .1) _ refl)
 
 loop-less : tie.Need-loop-less Inv-loop μ-loop
-loop-less c = let x = next-at (line (c .before .before .before)) in omega (arith, x .low, x .some-chars, x .high)
+loop-less c = let x = line-at (line (c .before .before .before)) .0 in omega (arith, x .low, x .some-chars, x .high)
 
 loop-again : tie.Need-loop-again Inv-loop μ-loop
 loop-again c =
     let j = c .before .before .before in
     let l = own j .loop in
-    (l .inv .0, going-pass lawful counting (l .inv .1) (next-at (line j)) (j .step-of .ensures) (c .before .step3 .given .1))
+    (l .inv .0, going-pass lawful counting (l .inv .1) (line-at (line j) .0) (line-at (line j) .1) (c .before .step3 .given .1))
 
 -- a data record, and the claim of its cells
 abbrev stepped : tie.After-claim Inv-loop μ-loop → tie.After-step4 Inv-loop μ-loop
 stepped c = c .before .before .before
 
-abbrev taken : tie.After-claim Inv-loop μ-loop → tie.After-step-of Inv-loop μ-loop
+abbrev taken : tie.After-claim Inv-loop μ-loop → tie.After-known-told Inv-loop μ-loop
 taken c = stepped c .before .before
 
 claim-requires : tie.Need-claim-requires Inv-loop μ-loop
@@ -128,11 +126,11 @@ returns-4 : tie.Need-returns-4 Inv-loop μ-loop
 returns-4 c =
     let k = c .before .before .before .before .before in
     let j = taken k in
-    rw (c .refused2 .ensures) (told-claim lawful counting (own j .loop .inv .1) (next-at (line j)) (j .step-of .ensures) (stepped k .step4 .given .1)
+    rw (c .refused2 .ensures) (told-claim lawful counting (own j .loop .inv .1) (line-at (line j) .0) (line-at (line j) .1) (stepped k .step4 .given .1)
     (k .claim .ensures .0) _ (c .before .before .if1 .taken))
 
 loop-less-2 : tie.Need-loop-less-2 Inv-loop μ-loop
-loop-less-2 c = let x = next-at (line (taken (c .before .before .before))) in omega (arith, x .low, x .some-chars, x .high)
+loop-less-2 c = let x = line-at (line (taken (c .before .before .before))) .0 in omega (arith, x .low, x .some-chars, x .high)
 
 loop-again-2 : tie.Need-loop-again-2 Inv-loop μ-loop
 loop-again-2 c =
@@ -140,7 +138,7 @@ loop-again-2 c =
     let j = taken k in
     let l = own j .loop in (
       k .claim .kept .1 .0 ∙ l .inv .0,
-      going-put lawful counting (l .inv .1) (next-at (line j)) (j .step-of .ensures) (stepped k .step4 .given .1)
+      going-put lawful counting (l .inv .1) (line-at (line j) .0) (line-at (line j) .1) (stepped k .step4 .given .1)
           (k .claim .ensures .0) _ (c .if1 .left) (k .claim .ensures .1),
     )
 
@@ -152,16 +150,12 @@ walk-spec =
     μ-loop
     (λ c κs. search needs)
     loop-holds
-    next-record-requires
+    take-next-requires
     (λ c. search needs)
     (λ c. search needs)
     (λ c κs. search needs)
     same-length
     returns
-    sub-step-of
-    part-step-of-start
-    part-step-of-end
-    step-of-requires
     (λ c. search needs)
     unfit-requires
     same-length-2

@@ -1,17 +1,13 @@
--- `value_of` meets its contract: an entry modulo 16 is the value.
-use mathlib.Core.Path.{refl}
-use Prim.Native.Nat.{_<_}
+-- `value_of` meets its contract: the computed test of all characters says so.
 use native.Mathlib.Omega.{arith}
-use Rattle.hex.proofs.DigitLaws.{value-small}
-use Rattle.hex.proofs.DigitTableLaws.{digit-at, entry-value}
+use Prim.Native.Nat.{_<_}
+use Rattle.hex.proofs.DigitTableLaws.{value-by-bits}
 use borrow.Author.Needs.{needs}
 use Rattle.hex.proofs.value_of.Statement.{statement}
 use Rattle.hex.proofs.value_of.Tie as tie
 
 returns : tie.Need-returns
-returns c =
-    let h : c .before .args .c < 256 = omega arith in
-    rw (c .before .pre, digit-at (c .before .args .c) h, entry-value (c .before .args .c)) (refl, value-small (c .before .args .c))
+returns c = let h : c .args .c < 256 = omega arith in (λ e. value-by-bits (c .args .c) h e, omega arith)
 
 pub value-of-spec : {M : Type 1} → statement M
-value-of-spec = tie.close (tie.spec (λ c. search needs) returns)
+value-of-spec = tie.close (tie.spec (λ c. search needs) (λ c. search needs) returns)

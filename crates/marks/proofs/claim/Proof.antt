@@ -51,8 +51,8 @@ returns-4 c =
     row-12-high (a .form) (a .cells) (a .marks .now) (s .pre) (a .base) (a .address) (a .count) (c .before .before .before .if1 .left)
     (c .before .before .if2 .left) (omega arith)
 
-part-is-free-end : tie.Need-part-is-free-end
-part-is-free-end c = let e = long-at (c .before) in search needs
+part-all-free-end : tie.Need-part-all-free-end
+part-all-free-end c = let e = long-at (c .before) in search needs
 
 returns-5 : tie.Need-returns-5
 returns-5 c =
@@ -60,7 +60,7 @@ returns-5 c =
     let s = call d in
     let a = s .args in
     let f : isFree (take (a .count) (drop (from d) (a .marks .now))) ≡ false
-    = rw add-sub-cancel-left at (sym (c .before .is-free .ensures) ∙ not-true _ (c .if5 .taken)) in
+    = rw add-sub-cancel-left at (sym (c .before .all-free .ensures) ∙ not-true _ (c .if5 .taken)) in
     row-13 (a .form) (a .cells) (a .marks .now) (s .pre) (a .base) (a .address) (a .count) (d .before .before .before .if1 .left)
     (d .before .before .if2 .left) (omega arith) f
 
@@ -76,7 +76,7 @@ returns-6 c =
     let a = s .args in
     let e = long-at d in
     let f : isFree (take (a .count) (drop (from d) (a .marks .now))) ≡ true
-    = rw add-sub-cancel-left at (sym (at-free .before .is-free .ensures) ∙ not-false _ (at-free .if5 .left)) in
+    = rw add-sub-cancel-left at (sym (at-free .before .all-free .ensures) ∙ not-false _ (at-free .if5 .left)) in
     granted (a .form) (a .cells) (a .marks .now) (s .pre) (a .base) (a .address) (a .count) (d .before .before .before .if1 .left)
     (d .before .before .if2 .left) (omega arith) f _
     (lent-filled (from d) _ (a .count) 1 (a .marks .now) _ (add-sub-cancel-left _ _) (omega arith) (at-fill .fill .ensures))
@@ -92,7 +92,7 @@ claim-spec =
     (λ c. search needs)
     (λ c. search needs)
     (λ c. search needs)
-    part-is-free-end
+    part-all-free-end
     (λ c κs. search needs)
     (λ c. search needs)
     returns-5

@@ -1,4 +1,6 @@
--- `first_bad` meets its contract: row 16 by the first bad byte.
+-- `first_bad` meets its contract: row 16, and where it is true the first bad byte.
+use mathlib.Core.Path.{sym, _∙_}
+use borrow.Author.Tests.{not-true, not-false}
 use Rattle.marks.proofs.FlagLaws.{bad-found, bad-none}
 use borrow.Author.Needs.{needs}
 use Rattle.marks.proofs.first_bad.Statement.{statement}
@@ -6,15 +8,15 @@ use Rattle.marks.proofs.first_bad.Tie as tie
 
 returns : tie.Need-returns
 returns c =
-    let s = c .before .before .before in
-    let a = s .args in
-    bad-found (a .cells) (a .marks .now) (c .before .bad-byte .result) (a .form) (s .pre) (c .before .bad-byte .ensures) (c .if1 .taken)
+    let a = c .before .before .before .args in
+    bad-none (a .form) (a .cells) (a .marks .now) (sym (c .before .has-bad .ensures) ∙ not-true _ (c .if1 .taken))
 
 returns-2 : tie.Need-returns-2
 returns-2 c =
-    let s = c .before .before .before in
-    let a = s .args in
-    bad-none (a .cells) (a .marks .now) (c .before .bad-byte .result) (a .form) (s .pre) (c .before .bad-byte .ensures) (c .if1 .left)
+    let e = c .before in
+    let a = e .before .before .before .args in
+    bad-found (a .form) (a .cells) (a .marks .now) (c .bad-byte .result) (sym (e .before .has-bad .ensures) ∙ not-false _ (e .if1 .left))
+    (c .bad-byte .ensures)
 
 pub first-bad-spec : {M : Type 1} → statement M
-first-bad-spec = tie.close (tie.spec (λ c κs. search needs) returns returns-2)
+first-bad-spec = tie.close (tie.spec (λ c κs. search needs) returns (λ c κs. search needs) returns-2)

@@ -6,6 +6,7 @@ use lib.ListN.{length, drop}
 use Rattle.window.specs.Walks.{unmarked}
 use Rattle.lists.proofs.SearchLaws.{at-end, at-stop, at-step}
 use Rattle.marks.proofs.MarkSearchLaws.{unmarked-stop, unmarked-step}
+use borrow.Author.Needs.{needs}
 use Rattle.marks.proofs.next_byte.Statement.{statement}
 use Rattle.marks.proofs.next_byte.Tie as tie
 
@@ -16,24 +17,27 @@ abbrev μ-loop : tie.MeasureT-loop
 μ-loop marks at i₀ i = length marks - i
 
 loop-holds : tie.Need-loop-holds Inv-loop μ-loop
-loop-holds c = (omega arith, refl)
+loop-holds c = c .skip-free .ensures
 
 returns : tie.Need-returns Inv-loop μ-loop
 returns c =
-    let l = c .before .before .before .loop in
-    let ms = c .before .before .before .before .args .marks .now in
+    let t = c .before .before .before in
+    let l = t .loop in
+    let ms = t .before .before .before .args .marks .now in
     sym (at-stop unmarked ms (l .i) (omega arith) (unmarked-stop _ (c .if1 .taken))) ∙ l .inv .1
 
 loop-again : tie.Need-loop-again Inv-loop μ-loop
 loop-again c =
-    let l = c .before .before .before .loop in
-    let ms = c .before .before .before .before .args .marks .now in
+    let t = c .before .before .before in
+    let l = t .loop in
+    let ms = t .before .before .before .args .marks .now in
     (omega arith, at-step unmarked unmarked ms (l .i) (omega arith) (unmarked-step _ (c .if1 .left)) ∙ l .inv .1)
 
 returns-2 : tie.Need-returns-2 Inv-loop μ-loop
 returns-2 c =
-    let l = c .before .loop in
-    let ms = c .before .before .args .marks .now in
+    let t = c .before in
+    let l = t .loop in
+    let ms = t .before .before .before .args .marks .now in
     sym (at-end unmarked ms (l .i) refl (c .loop-test .left)) ∙ l .inv .1
 
 pub next-byte-spec : {M : Type 1} → statement M
@@ -42,6 +46,7 @@ next-byte-spec =
     (tie.spec
     Inv-loop
     μ-loop
+    (λ c κs. search needs)
     loop-holds
     (λ c. omega arith)
     returns

@@ -1,7 +1,7 @@
 -- `put_record` meets its contract: the part of the address bytes that it hands on has the address in that width.
 use borrow.Author.Needs.{needs}
 use Rattle.srec_encode.specs.Records.{lineOf}
-use Rattle.hex.proofs.PutLaws.{address-field}
+use Rattle.hex_write.proofs.PutLaws.{address-field}
 use Rattle.srec_encode.proofs.put_record.Statement.{statement}
 use Rattle.srec_encode.proofs.put_record.Tie as tie
 

@@ -29,10 +29,12 @@ store-record-requires : tie.Need-store-record-requires
 store-record-requires c κs =
     let at-answer = c .before .before .before in
     let r = got-at at-answer in (
-      at-answer .before .before .before .before .pre,
-      search needs,
-      omega
-          (arith, r .fields .long, r .small .2, r .len, length-take-le _ zeros (r .small .1)),
+      (
+        at-answer .before .before .before .before .pre,
+        search needs,
+        omega (arith, r .fields .long, r .small .2, r .len, length-take-le _ zeros (r .small .1)),
+      ),
+      r .fields .digits,
     )
 
 returns-3 : tie.Need-returns-3

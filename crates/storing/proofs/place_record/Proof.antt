@@ -92,7 +92,7 @@ store-record-requires : tie.Need-store-record-requires
 store-record-requires c κs =
     let at-number-of = c .before in
     let own = data-at (at-number-of .before .before .before .before .before .before) in
-    (search needs, own .high, omega (arith, own .fields .long, lent-at at-number-of))
+    ((search needs, own .high, omega (arith, own .fields .long, lent-at at-number-of)), own .fields .digits)
 
 returns-4 : tie.Need-returns-4
 returns-4 c =

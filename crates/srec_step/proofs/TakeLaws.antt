@@ -1,0 +1,73 @@
+-- A record that was read has no line end inside, so that it is the next record of its text if it may end where it ends.
+use mathlib.Core.Path.{_≡_, ap, _∙_, subst}
+use Prim.Native.Nat.{ℕ, _-_, _≤_, _<_}
+use native.Mathlib.Omega.{arith}
+use mathlib.Core.Bool.{true, false}
+use mathlib.Core.List.{List, [], _∷_}
+use mathlib.Core.Option.{none, some}
+use lib.Dec.{eqb}
+use lib.ListN.{length, drop, length-drop}
+use lib.Seq.{length-take-le}
+use borrow.Author.Tests.{eqb-true}
+use Rattle.lists.proofs.TestLaws.{by-test}
+use Rattle.hex.specs.Digits.{between, isHex, firstBad}
+use Rattle.hex.proofs.DigitLaws.{first-is}
+use Rattle.text.specs.declared.Found.the-variants.{At}
+use Rattle.text.specs.Lines.{front, lines}
+use Rattle.text.specs.Finds.{found}
+use Rattle.text.proofs.LineLaws.{Free}
+use Rattle.text.proofs.FindLaws.{part, from, Next, next-free, next-is}
+use Rattle.srec.specs.Lines.{isEnd}
+use Rattle.srec.specs.Kinds.{Kind, kindOf}
+use Rattle.srec_read.proofs.FieldLaws.{Fields, Got}
+
+-- ---- no line end
+
+-- a character that is neither LF nor CR
+not-end : (c : ℕ) → (c ≡ 10 → ⊥) → (c ≡ 13 → ⊥) → isEnd c ≡ false
+unfolding isEnd
+not-end c p q =
+    by-test (eqb c 10) (λ e. absurd (p (eqb-true c 10 e)))
+    (λ e. by-test (eqb c 13) (λ f. absurd (q (eqb-true c 13 f))) (λ f. rw (e, f)))
+
+-- a hex digit
+hex-free : (c : ℕ) → isHex c ≡ true → isEnd c ≡ false
+unfolding isHex between
+hex-free c h = not-end c (λ e. never (rw e at h)) (λ e. never (rw e at h))
+  where
+    never : false ≡ true → ⊥
+    never q = let z : _≡_ {A = ℕ} 0 1 = cc in omega arith
+
+-- a type that is in the table
+kind-free : (c : ℕ) (k : Kind) → kindOf c ≡ some k → isEnd c ≡ false
+unfolding kindOf
+kind-free c k h = not-end c (λ e. never (rw e at h)) (λ e. never (rw e at h))
+  where
+    never : none ≡ some k → ⊥
+    never q = let z : _≡_ {A = ℕ} 0 1 = cc in omega arith
+
+-- hex digits
+digits-free : (cs : List ℕ) → length cs ≤ firstBad cs → Free isEnd cs
+digits-free [] h = tt
+digits-free (c ∷ cs) h = let f = first-is c cs h in (hex-free c (f .0), digits-free cs (f .1))
+
+-- all characters of a good record
+good-free : (chars : List ℕ) (k : Kind) (a : ℕ) (ds : List ℕ) → Fields chars k a ds → Free isEnd chars
+good-free [] k a ds f = tt
+good-free (c ∷ []) k a ds f = absurd (omega (arith, f .long))
+good-free (c ∷ d ∷ cs) k a ds f =
+    let letter = not-end c (λ e. omega (arith, f .letter, e)) (λ e. omega (arith, f .letter, e)) in
+    (letter, (kind-free d k (f .type-known), digits-free cs (f .digits)))
+
+-- ---- the next record
+
+-- a good record that begins where the next one does, and ends where one may end
+pub next-good : (text : List ℕ) (at f e : ℕ) → at ≤ length text → f ≡ from isEnd text at → f ≤ e → e ≤ length text
+    → length (front isEnd (drop e text)) ≡ 0 → {kind a n : ℕ} → Got (part text f e) kind a n → Next isEnd text at f e
+next-good text at f e i b l h s {kind} {a} g =
+    let c : Free isEnd (part text f e) = good-free (part text f e) (g .k) a (g .ds) (g .fields) in
+    let long : length (part text f e) ≡ e - f = length-take-le (e - f) (drop f text) (omega (arith, length-drop f text)) in
+    let ahead : from isEnd text at < e = omega (arith, g .fields .long, long, b) in
+    let p : At f e ≡ found (lines isEnd at (drop at text))
+    = ap (λ (j : ℕ). At j e) b ∙ next-free isEnd text at e ahead h (subst (λ (j : ℕ). Free isEnd (part text j e)) b c) s in
+    next-is isEnd text at f e i p
