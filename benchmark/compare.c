@@ -55,7 +55,7 @@ static struct buffers allocate_buffers(const struct trial *trials, size_t number
         cells = text->cells > cells ? text->cells : cells;
         room = text->room > room ? text->room : room;
     }
-    return (struct buffers){allocate(cells), allocate(cells), allocate(room)};
+    return (struct buffers){allocate_filled(cells), allocate_filled(cells), allocate_filled(room)};
 }
 
 static void free_buffers(struct buffers *buffers)

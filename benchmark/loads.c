@@ -44,8 +44,8 @@ static void check_library(const struct trial *trial, uint8_t *memory, uint8_t *m
 /* The twins must give what the library gives. */
 static void check(const struct trial *trial)
 {
-    uint8_t *expected_memory = allocate(trial->cells), *expected_marks = allocate(trial->cells);
-    uint8_t *memory = allocate(trial->cells), *marks = allocate(trial->cells);
+    uint8_t *expected_memory = allocate_filled(trial->cells), *expected_marks = allocate_filled(trial->cells);
+    uint8_t *memory = allocate_filled(trial->cells), *marks = allocate_filled(trial->cells);
 
     check_library(trial, expected_memory, expected_marks);
     for (int program = PLAIN; program < PROGRAMS; program++) {
@@ -84,7 +84,7 @@ static void run(struct trial *trials, size_t number, long rounds)
         check(&trials[i]);
         cells = trials[i].cells > cells ? trials[i].cells : cells;
     }
-    uint8_t *memory = allocate(cells), *marks = allocate(cells);
+    uint8_t *memory = allocate_filled(cells), *marks = allocate_filled(cells);
     for (long round = 1; round <= rounds; round++) {
         print_round(round, rounds);
         for (size_t i = 0; i < number; i++)

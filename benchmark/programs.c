@@ -15,7 +15,7 @@ const struct program programs[PROGRAMS] = {
     {"tuned", tuned_load, tuned_write},
 };
 
-uint8_t *allocate(size_t length)
+uint8_t *allocate_filled(size_t length)
 {
     uint8_t *bytes = malloc(length);
     if (!bytes) {
@@ -35,7 +35,7 @@ size_t count_marks(const uint8_t *marks, size_t cells)
 {
     size_t marked = 0;
     for (size_t i = 0; i < cells; i++)
-        marked += marks[i];
+        marked += marks[i] == 1;
     return marked;
 }
 

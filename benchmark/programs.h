@@ -29,7 +29,7 @@ enum { BASE = 0 };
 enum { FILL = 0xA5 };
 
 /* Filled, so that no page is met for the first time while the clock runs. Ends the program if memory is short. */
-uint8_t *allocate(size_t length);
+uint8_t *allocate_filled(size_t length);
 
 /* Loads a text into a window of so many cells. */
 uint32_t run_load(int program, const struct text *text, uint8_t *memory, uint8_t *marks, size_t cells);

@@ -66,10 +66,11 @@ pub fn first_bad(chars: &[u8]) -> usize
 }
 
 // The entries of pairs of characters, added up, 16 times that of the first: the sum of the bytes that digits stand for, and at least
-// NONE where a character is no digit. So one walk tells both. High and low digits are added up apart: it saves a product a pair.
+// NONE where a character is no digit. So one walk tells both. High and low digits are added up apart: it saves a product a pair. A pair
+// adds 17 times NONE at most.
 pub fn weigh(table: &[u32; 256], chars: &[u8]) -> u32
     requires { ⌜ (now table ≡ digitTable) × (length (now chars) ≤ 1024) ⌝ }
-    ensures { λ r. ⌜ (r ≡ weighed (now (chars .entry))) × (r ≤ 1114112 * length (now (chars .entry))) ⌝ }
+    ensures { λ r. ⌜ (r ≡ weighed (now (chars .entry))) × (r ≤ 17 * 65536 * length (now (chars .entry))) ⌝ }
 {
     let n = chars.len() / 2;
     let mut high: u32 = 0;

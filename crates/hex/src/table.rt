@@ -53,6 +53,7 @@ pub const DIGITS: [u32; 256] = [
     NONE,
     NONE,
     NONE,
+    // 0 to 9
     0,
     1,
     2,
@@ -70,6 +71,7 @@ pub const DIGITS: [u32; 256] = [
     NONE,
     NONE,
     NONE,
+    // A to F
     10,
     11,
     12,
@@ -102,6 +104,7 @@ pub const DIGITS: [u32; 256] = [
     NONE,
     NONE,
     NONE,
+    // a to f
     10,
     11,
     12,

@@ -6,6 +6,7 @@ use lib.ListN.{length}
 use Rattle.hex.specs.Digits.{bytes, firstBad}
 use Rattle.hex.specs.Numbers.{sum}
 
--- below 131072 it tells that all characters are digits, and is the sum of the bytes of their pairs; above it says nothing
+-- below 131072 it tells that all characters are digits, and is the sum of the bytes of their pairs; from 131072 on it says
+-- nothing
 abbrev pub Tells : ℕ → List ℕ → Type 0
 Tells s cs = s < 131072 → (length cs ≤ firstBad cs) × (s ≡ sum (bytes cs))

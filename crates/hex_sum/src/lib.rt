@@ -10,7 +10,7 @@ ghost use Rattle.hex_sum.specs.Sums.{Tells};
 // So many characters are looked at together.
 const BLOCK: usize = 32;
 
-// 0 for a hex digit, 1 for another character: 0 to 9, or the first six letters of either case. By arithmetic, as vectors need it.
+// Is it no hex digit? 0 or 1, by arithmetic, as vectors need it: a digit is 0 to 9, or one of the first six letters of either case.
 fn fault_of(c: u8) -> u8
     ensures { λ r. ⌜ (r ≡ 0 → isHex c ≡ true) × (r ≤ 1) ⌝ }
 {

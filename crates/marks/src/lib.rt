@@ -41,7 +41,7 @@ pub fn clear(marks: &mut [u8])
     fill(marks, 0);
 }
 
-// Is no mark of a few set? It looks at each, with no way out before the end: that is faster.
+// Is no mark of a part set? It looks at each, with no way out before the end: that is faster.
 fn is_free(part: &[u8]) -> bool
     ensures { λ r. ⌜ r ≡ isFree (now (part .entry)) ⌝ }
 {
@@ -70,7 +70,7 @@ fn skip_free(marks: &[u8], at: usize) -> usize
     i
 }
 
-// Is no mark of a part set? Short records fill a block or two, which are seen at once; on long ones the plain loop is faster.
+// The same. Short records fill a block or two, which are seen at once; on long ones the plain loop is faster.
 fn all_free(part: &[u8]) -> bool
     ensures { λ r. ⌜ r ≡ isFree (now (part .entry)) ⌝ }
 {

@@ -69,14 +69,6 @@ known-kind c k e =
 pub type-of-kind : (c : ℕ) (k : Kind) → kindOf c ≡ some k → typeOf k ≡ c
 type-of-kind c k e = let f : Facts c (some k) = subst (Facts c) e (kind-facts c) in f .0
 
--- the answer 0 means a type that is not in the table
-pub unknown-type : (c w : ℕ) → w ≡ widthOr0 (kindOf c) → w ≡ 0 → kindOf c ≡ none
-unknown-type c w q h = go (kindOf c) refl (kind-facts c)
-  where
-    go : (o : Option Kind) → kindOf c ≡ o → Facts c o → kindOf c ≡ none
-    go none e f = e
-    go (some k) e f = absurd (omega (arith, f .1, sym (q ∙ ap widthOr0 e) ∙ h))
-
 -- ---- row 6
 
 module _ (c w n count : ℕ) (t : Known c w) where

@@ -6,10 +6,10 @@ use mathlib.Core.Bool.{true, false}
 use mathlib.Core.List.{List, [], _∷_}
 use mathlib.Core.Option.{none, some}
 use lib.Dec.{eqb}
-use lib.ListN.{length, drop, length-drop}
-use lib.Seq.{length-take-le}
+use lib.ListN.{length, drop}
 use borrow.Author.Tests.{eqb-true}
 use Rattle.lists.proofs.TestLaws.{by-test}
+use Rattle.lists.proofs.PartLaws.{part-long}
 use Rattle.hex.specs.Digits.{between, isHex, firstBad}
 use Rattle.hex.proofs.DigitLaws.{first-is}
 use Rattle.text.specs.declared.Found.the-variants.{At}
@@ -66,7 +66,7 @@ pub next-good : (text : List ℕ) (at f e : ℕ) → at ≤ length text → f �
     → length (front isEnd (drop e text)) ≡ 0 → {kind a n : ℕ} → Got (part text f e) kind a n → Next isEnd text at f e
 next-good text at f e i b l h s {kind} {a} g =
     let c : Free isEnd (part text f e) = good-free (part text f e) (g .k) a (g .ds) (g .fields) in
-    let long : length (part text f e) ≡ e - f = length-take-le (e - f) (drop f text) (omega (arith, length-drop f text)) in
+    let long : length (part text f e) ≡ e - f = part-long text f e l h in
     let ahead : from isEnd text at < e = omega (arith, g .fields .long, long, b) in
     let p : At f e ≡ found (lines isEnd at (drop at text))
     = ap (λ (j : ℕ). At j e) b ∙ next-free isEnd text at e ahead h (subst (λ (j : ℕ). Free isEnd (part text j e)) b c) s in

@@ -80,7 +80,7 @@ fn step_of(table: &[u32; 256], state: State, chars: &[u8], place: usize) -> Step
     judge(state, kind, address, count, place)
 }
 
-// Takes the next record by looking for its end. A load comes here at a refusal, and behind the last record.
+// Takes the next record by looking for its end. A load comes here where one of rows 3 to 7 refuses a record, and behind the last record.
 fn search_next(table: &[u32; 256], state: State, text: &[u8], at: usize) -> Taken
     requires { ⌜ (now table ≡ digitTable) × (at ≤ length (now text)) × (state .number ≤ at) × (state .records ≤ at) × (state .cells ≤ at) ⌝ }
     ensures { λ r. ⌜ r ≡ taken srec state (lines isEnd at (drop at (now (text .entry)))) ⌝ }

@@ -7,9 +7,10 @@ use mathlib.Core.Bool.{Bool, true}
 use mathlib.Core.List.{List, [], _∷_}
 use lib.Dec.{ltb}
 use lib.ListN.{length, getD, take, drop, drop-of-length-le, length-drop}
-use lib.Seq.{drop-drop, drop-cons, drop-length, length-take-le}
+use lib.Seq.{drop-drop, drop-cons, drop-length}
 use borrow.Author.Tests.{ltb-true, ltb-false}
 use Rattle.lists.proofs.TestLaws.{by-test}
+use Rattle.lists.proofs.PartLaws.{part-long}
 use Rattle.text.specs.declared.Found.the-variants.{At, Nothing}
 use Rattle.text.specs.Lines.{Line, front, push, behind, lines}
 use Rattle.text.specs.Finds.{leading, found}
@@ -142,7 +143,7 @@ module _ (gap : ℕ → Bool) where
 
   -- it has a character for each place from its start to its end
   pub next-long : {text : List ℕ} {at from to : ℕ} → Next text at from to → length (part text from to) ≡ to - from
-  next-long {text} {at} {from} {to} x = length-take-le (to - from) (drop from text) (omega (arith, length-drop from text, x .high, x .some-chars))
+  next-long {text} {at} {from} {to} x = part-long text from to (omega (arith, x .some-chars)) (x .high)
 
   -- what `next_line` has found
   pub next-is : (text : List ℕ) (at f t : ℕ) → at ≤ length text → At f t ≡ found (lines gap at (drop at text)) → Next text at f t
