@@ -4,14 +4,14 @@ use Prim.Native.Nat.{ℕ, suc, _+_, _-_, _%_, _<_}
 use native.Mathlib.Omega.{arith}
 use mathlib.Core.Bool.{true, false, not, _||_}
 use mathlib.Core.List.{List, [], _∷_}
-use mathlib.Core.Logic.{⊎-elim, _⊎_, inl, inr, _↔_}
+use mathlib.Core.Logic.{⊎-elim, _⊎_, inl, inr}
 use lib.Dec.{T, eqb, ltb}
 use lib.ListN.{length}
 use borrow.Author.Tests.{eqb-true, eq-eqb, ne-eqb, le-leb, lt-leb, le-ltb, lt-ltb, ltb-true, ltb-false, not-false}
 use Rattle.window.specs.declared.Entry.{Entry}
 use Rattle.window.specs.declared.Entry.the-variants.{Absent, Present}
 use Rattle.window.specs.Images.{Image, image}
-use Rattle.window.specs.Cells.{Cell, Run, Addressed, shown}
+use Rattle.window.specs.Cells.{Run, shown}
 use Rattle.window.specs.Plans.{Summary}
 use Rattle.window.specs.Plans.Outcome.{accepted}
 use Rattle.lists.proofs.TestLaws.{by-test, T-true, and-both}
@@ -26,12 +26,10 @@ use Rattle.text.specs.Terms.{loaded}
 use Rattle.text.proofs.WalkLaws.{Inductive, accepted-walk}
 use Rattle.text.proofs.FormatLaws.{IsRefusal, EntryOk}
 use Rattle.window.proofs.OrderLaws.{Rising, rising-image}
-use Rattle.window.proofs.CellLaws.{In, in-flat}
 use Rattle.window.proofs.RoomLaws.{RisingRuns}
-use Rattle.window.proofs.ViewLaws.{shown-marked}
-use Rattle.text.proofs.RunLaws.{flat-runs, AllSized, Longest, sized-runs, longest-runs, rising-runs}
+use Rattle.text.proofs.RunLaws.{AllSized, Longest, sized-runs, longest-runs, rising-runs}
 use Rattle.text.proofs.LoadLaws.{load-inv, accepted-is, answer-given}
-use Rattle.text.proofs.Facts.{text-is-loaded as carried, cells-are-data as data-bytes, cells-are-marks as marked, records-are-counted as counted}
+use Rattle.text.proofs.Facts.{text-is-loaded as carried, cells-are-data as data-bytes, cells-are-marks as marked, records-are-counted as counted, runs-marked}
 use Rattle.srec.specs.Lines.{isEnd}
 use Rattle.srec.specs.Kinds.Kind.{S0, Data, S5, End}
 use Rattle.srec.specs.Reading.{Read, row3, read}
@@ -134,11 +132,8 @@ rows-of lo (r ∷ q ∷ rs) g h l = (
 pub runs-are-rows : Runs-are-rows
 runs-are-rows W a odd =
     let rising : Rising 0 (shown W) = rising-image (W .base) (image (W .memory) (W .marks)) in
-    let same : (A B : ℕ) → Addressed A B (runs follow (shown W)) ↔ In A B (shown W)
-    = λ A B. subst (λ (cs : List Cell). Addressed A B (runs follow (shown W)) ↔ In A B cs) (flat-runs follow (shown W))
-    (in-flat A B (runs follow (shown W)) .1, in-flat A B (runs follow (shown W)) .0) in
     record {
-      cells = λ A B. (λ k. shown-marked W a odd A B .0 (same A B .0 k), λ k. same A B .1 (shown-marked W a odd A B .1 k));
+      cells = runs-marked follow W a odd;
       rows = rows-of 0 (runs follow (shown W)) (sized-runs follow (shown W)) (rising-runs follow (shown W) rising)
           (longest-runs follow (shown W) rising);
     }

@@ -14,3 +14,4 @@ pub mod SameLaws
 pub mod ResultLaws
 pub mod CaseLaws
 pub mod StepLaws
+pub mod AcrossLaws

@@ -38,6 +38,10 @@ module _ (gap : ℕ → Bool) where
       pushed [] l = absurd (not-suc-le-zero l)
       pushed (y ∷ ys) l = refl
 
+  -- a separator before the rest makes no line
+  pub lines-gap : (x : ℕ) (rest : List ℕ) (at : ℕ) → gap x ≡ true → lines gap at (x ∷ rest) ≡ lines gap (suc at) rest
+  lines-gap x rest at g = rw g
+
   -- where no digit is a separator, bytes written as digits have none
   pub digits-free : ((n : ℕ) → n < 16 → gap (digit n) ≡ false) → (bs : List ℕ) → Bytes bs → Free (digitsOf bs)
   digits-free f [] h = tt

@@ -191,24 +191,23 @@ module _ (F : Format) (L : Limits) (laws : Lawful F L) where
 
   -- ---- the writer, given what a load left
 
-  -- from the window that a load leaves, with room enough, the canonical text of its cells is written
-  write-behind : (W : Window) (text : List ℕ) (s : Summary) (img : Image) (room : ℕ) → Behind F L W text s img
-      → row17 (textOf F (showing (W .base) (W .memory) img) (s .header) (s .entry)) room ≡ false
-      → write F (showing (W .base) (W .memory) img) (s .header) (s .entry) room ≡ wrote (F .canonical (cells (W .base) img) (s .header) (s .entry))
+  -- from a window that shows an image, with room enough, the canonical text of its cells is written
+  pub write-shown : (base : ℕ) (memory : List ℕ) (img : Image) (h : List ℕ) (e : Entry) (room : ℕ) → length memory ≡ length img
+      → base + length memory ≤ 2 ^ 32 → Storable L (cells base img) h e → row17 (textOf F (showing base memory img) h e) room ≡ false
+      → write F (showing base memory img) h e room ≡ wrote (F .canonical (cells base img) h e)
   unfolding row16 textOf
-  write-behind W text s img room b r =
-      let X : Window = showing (W .base) (W .memory) img in
+  write-shown base memory img h e room long fits storable r =
+      let X : Window = showing base memory img in
       let a : Allowed X
-      = allowed-is X (length-map img mark ∙ sym (b .long) ∙ sym (length-overlaid (W .memory) img)) (rw length-overlaid (b .fits)) in
-      let same : shown X ≡ cells (W .base) img = ap (cells (W .base)) (image-after (W .memory) img (b .long)) in
+      = allowed-is X (length-map img mark ∙ sym long ∙ sym (length-overlaid memory img)) (rw length-overlaid fits) in
+      let same : shown X ≡ cells base img = ap (cells base) (image-after memory img long) in
       let odd : row16 (X .marks) ≡ false = rw (no-odd img) (le-ltb (length (marksOf img)) (length (marksOf img)) (omega arith)) in
-      write-is F L laws X (s .header) (s .entry) room a odd
-      (subst (λ (cs : List Cell). Storable L cs (s .header) (s .entry)) (sym same) (b .storable)) r
-      ∙ ap (λ (cs : List Cell). wrote (F .canonical cs (s .header) (s .entry))) same
+      write-is F L laws X h e room a odd (subst (λ (cs : List Cell). Storable L cs h e) (sym same) storable) r
+      ∙ ap (λ (cs : List Cell). wrote (F .canonical cs h e)) same
 
   -- with room enough, the canonical text of the loaded cells is written
   pub writtenAfter-is : (W : Window) (text : List ℕ) (s : Summary) (img : Image) (room : ℕ) → load W (plan F text) ≡ accepted s img
       → Enough F W text room → writtenAfter F W text room ≡ wrote (F .canonical (cells (W .base) img) (s .header) (s .entry))
   writtenAfter-is W text s img room q =
       rw (q, take-at (s .header) (replicate (252 - length (s .header)) 0) (length (s .header)) refl)
-      (λ n. write-behind W text s img room (load-inv W text s img q) n)
+      (λ n. let b = load-inv W text s img q in write-shown (W .base) (W .memory) img (s .header) (s .entry) room (b .long) (b .fits) (b .storable) n)

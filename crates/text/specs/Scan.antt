@@ -10,7 +10,7 @@ use Rattle.window.specs.Plans.Plan.{store, stop, done}
 use Rattle.text.specs.Lines.{Line}
 
 -- why a line is refused, and where: the row, the index of a character of the line, and the checksum byte that would have been right
--- (0 where the row is not about it)
+-- (0 where the row, or the format, gives none)
 pub record Fault : Type 0 where
   pub reason : ℕ
   pub offset : ℕ

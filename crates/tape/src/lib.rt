@@ -1,0 +1,1 @@
+// MOS Technology paper tapes as a format: definitions and theorems, no functions.
