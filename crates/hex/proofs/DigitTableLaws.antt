@@ -2,19 +2,18 @@
 use mathlib.Core.Path.{_≡_, refl, sym, ap, _∙_}
 use Prim.Native.Nat.{ℕ, zero, suc, _+_, _-_, _*_, _/_, _%_, _≤_, _<_}
 use native.Mathlib.Nat.{add-zero, zero-add, add-suc, suc-add, not-suc-le-zero, le-of-suc-le-suc}
-use native.Mathlib.Numerals.{add-one}
 use native.Mathlib.Omega.{arith}
 use mathlib.Core.Bool.{true, false, and-false, not, _||_}
 use mathlib.Core.List.{List, [], _∷_}
 use lib.Dec.{T, leb, eqb, eqb→eq}
 use lib.ListN.{length, getD, drop, length-drop}
-use lib.Seq.{drop-cons}
 use borrow.Author.Tests.{le-leb, lt-leb}
 use Rattle.hex.specs.Digits.{between, isHex, value, byteOf, bytes, firstBad}
 use Rattle.hex.specs.Numbers.{sum}
 use Rattle.hex.specs.Tables.{digitOr16, tableFrom, weight, digitTable, weighed}
 use Rattle.lists.proofs.TestLaws.{by-test, below}
 use Rattle.hex.proofs.DigitLaws.{value-small, first-is}
+use Rattle.hex.proofs.PairLaws.{pair-split}
 
 -- ---- ranges
 
@@ -127,9 +126,7 @@ weight-byte c d = omega (arith, weight-value c, weight-value d, value-small c, v
 -- one pair more: a turn of `weigh`
 pub weigh-turn : (cs : List ℕ) (k : ℕ) → 2 * k + 1 < length cs
     → weighed (drop (2 * k) cs) ≡ 16 * weight (getD cs (2 * k) 0) + weight (getD cs (2 * k + 1) 0) + weighed (drop (2 * (k + 1)) cs)
-weigh-turn cs k h =
-    let e : 2 * (k + 1) ≡ suc (suc (2 * k)) = omega arith in
-    rw (drop-cons cs (2 * k) 0 (omega arith), drop-cons cs (suc (2 * k)) 0 (omega arith), add-one (2 * k), e)
+weigh-turn cs k h = ap weighed (pair-split cs k h)
 
 -- no whole pair is left
 pub weigh-end : (cs : List ℕ) (k : ℕ) → length cs / 2 ≤ k → weighed (drop (2 * k) cs) ≡ 0

@@ -3,6 +3,7 @@
 ghost use mathlib.Core.Path.{_≡_};
 ghost use mathlib.Core.Bool.{true};
 ghost use Prim.Native.Nat.{_+_, _≤_, min};
+ghost use lib.Dec.{eqb, ltb};
 ghost use lib.ListN.{length, take, drop, replicate};
 ghost use Rattle.window.specs.Marks.{isFree, claimRow, claimed};
 ghost use Rattle.window.specs.Walks.{unmarked, run, runOn};
@@ -41,9 +42,9 @@ pub fn clear(marks: &mut [u8])
     fill(marks, 0);
 }
 
-// Is no mark of a part set? It looks at each, with no way out before the end: that is faster.
-fn is_free(part: &[u8]) -> bool
-    ensures { λ r. ⌜ r ≡ isFree (now (part .entry)) ⌝ }
+// The bits that any mark of a part has. It looks at each, and does not leave before the end: that is faster.
+fn any_of(part: &[u8]) -> u8
+    ensures { λ r. ⌜ (eqb r 0 ≡ isFree (now (part .entry))) × (ltb 1 r ≡ row16 (now (part .entry))) ⌝ }
 {
     let mut any: u8 = 0;
     let mut i: usize = 0;
@@ -51,7 +52,14 @@ fn is_free(part: &[u8]) -> bool
         any = any | part[i];
         i += 1;
     }
-    any == 0
+    any
+}
+
+// Is no mark of a part set?
+fn is_free(part: &[u8]) -> bool
+    ensures { λ r. ⌜ r ≡ isFree (now (part .entry)) ⌝ }
+{
+    any_of(part) == 0
 }
 
 // A place up to which no mark byte from `at` on is set: blocks without one are passed whole.
@@ -210,17 +218,11 @@ fn bad_byte(marks: &[u8]) -> usize
     i
 }
 
-// Is a mark byte neither 0 nor 1? It looks at each, with no way out before the end: that is faster.
+// Is a mark byte neither 0 nor 1?
 fn has_bad(marks: &[u8]) -> bool
     ensures { λ r. ⌜ r ≡ row16 (now (marks .entry)) ⌝ }
 {
-    let mut any: u8 = 0;
-    let mut i: usize = 0;
-    while i < marks.len() {
-        any = any | marks[i];
-        i += 1;
-    }
-    1 < any
+    1 < any_of(marks)
 }
 
 // Row 16, with its place.

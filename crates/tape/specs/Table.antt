@@ -8,7 +8,7 @@ use Rattle.window.specs.declared.Entry.the-variants.{Absent, Present}
 use Rattle.window.specs.Windows.{Window, windowOf}
 use Rattle.window.specs.Cells.{Cell, cells}
 use Rattle.window.specs.Plans.{refusal}
-use Rattle.text.specs.Cases.{Result, Case, cell, block, row}
+use Rattle.text.specs.Cases.{Result, Case, cell, block, row, empty, single}
 use Rattle.text.specs.Cases.Result.{passes}
 use Rattle.text.specs.Cases.Case.{writes, declines, loads, rejects}
 
@@ -53,13 +53,7 @@ accepting =
     ∷ loads ";01FFFFA502A4\r\n;0000010001\r\n" (0xFFFF ∷ []) (holding 1 (cell 0xFFFF 0xA5 ∷ []))
     ∷ []
 
--- a window of no cells, of one cell at the address a, and of three cells whose last mark is 2
-abbrev pub empty : Window
-empty = windowOf 0 [] []
-
-abbrev pub single : ℕ → Window
-single a = windowOf a (0 ∷ []) (0 ∷ [])
-
+-- a window of three cells whose last mark is 2
 abbrev pub marked-2 : Window
 marked-2 = windowOf 0xFFFF (7 ∷ 7 ∷ 7 ∷ []) (1 ∷ 1 ∷ 2 ∷ [])
 
