@@ -18,7 +18,9 @@ from collections import Counter
 from pathlib import Path
 
 ROOT = Path(__file__).resolve().parent.parent
-CRATES = ("lists", "hex", "window", "text", "srec")
+CRATES = ("lists", "hex", "window", "text", "srec", "tape")
+# the sides that the oracle draws cases of, each with the format whose definitions it is held to
+SIDES = {"load": "srec", "write": "srec", "load-tape": "tape", "write-tape": "tape"}
 # of so many drawn cases of a side, so many of each refusal and of the accepted ones: some refusals are rarely drawn
 DRAWN, REFUSED, ACCEPTED = 3000, 30, 100
 # what an output holds before a write: no character of a text
@@ -39,16 +41,15 @@ use Rattle.window.specs.declared.Entry.the-variants.{Absent, Present}
 use Rattle.window.specs.declared.Header.{Header}
 use Rattle.window.specs.declared.Loaded.{Loaded}
 use Rattle.window.specs.declared.Written.{Written}
-use Rattle.text.specs.Formats.{plan}
+use Rattle.text.specs.Formats.{Format, plan}
 use Rattle.text.specs.Load.{load, loadAnswer, memoryAfter, marksAfter}
 use Rattle.text.specs.Write.{WriteOutcome, write, writeAnswer, outputAfter}
-use Rattle.srec.specs.Formats.{srec}
 
 pub data Case : Type 0 where
-  -- window and text; the answer, and memory and marks afterwards
-  loads : Window → List ℕ → Loaded → List ℕ → List ℕ → Case
-  -- window, header, entry and output; the answer, and the output afterwards
-  writes : Window → List ℕ → Entry → List ℕ → Written → List ℕ → Case
+  -- format, window and text; the answer, and memory and marks afterwards
+  loads : Format → Window → List ℕ → Loaded → List ℕ → List ℕ → Case
+  -- format, window, header, entry and output; the answer, and the output afterwards
+  writes : Format → Window → List ℕ → Entry → List ℕ → Written → List ℕ → Case
 
 abbrev pub sameList : List ℕ → List ℕ → Bool
 sameList [] [] = true
@@ -87,8 +88,8 @@ writeGives out o answer output = sameWritten (writeAnswer o) answer && sameList 
 -- to unfold it is to unfold all that its line names: every definition that is shut
 unfoldable pub agrees : Case → Bool
 unfolding {unfoldable}
-agrees (loads W text answer memory marks) = loadGives W (load W (plan srec text)) answer memory marks
-agrees (writes W header entry out answer output) = writeGives out (write srec W header entry (length out)) answer output
+agrees (loads F W text answer memory marks) = loadGives W (load W (plan F text)) answer memory marks
+agrees (writes F W header entry out answer output) = writeGives out (write F W header entry (length out)) answer output
 """
 
 STATEMENTS = """\
@@ -96,6 +97,8 @@ use mathlib.Core.List.{[], _∷_}
 use lib.Dec.{T}
 use lib.ListN.{replicate}
 use Rattle.window.specs.declared.Entry.the-variants.{Absent, Present}
+use Rattle.srec.specs.Formats.{srec}
+use Rattle.tape.specs.Formats.{tape}
 use Rattle.sense.specs.Comparison.{agrees}
 use Rattle.sense.specs.Comparison.Case.{loads, writes}
 """
@@ -161,7 +164,7 @@ def refusal(case):
     return record(reason=case["number"], ordinal=case["record"], place=case["place"], want=case["want"])
 
 
-def load_case(case):
+def load_case(format, case):
     header = case["header"]
     answer = record(
         refusal=refusal(case),
@@ -171,14 +174,20 @@ def load_case(case):
         cells=case["cells"],
     )
     after = numbers(case["memory_after"]), numbers(case["marks_after"])
-    return " ".join(["loads", window(case), numbers(case["text"]), answer, *after])
+    return " ".join(["loads", format, window(case), numbers(case["text"]), answer, *after])
 
 
-def write_case(case):
+def write_case(format, case):
     text, room = case["text_out"], case["room"]
     answer = record(refusal=refusal(case), length=len(text))
     before, after = filled([], room, UNWRITTEN), filled(text, room, UNWRITTEN)
-    return " ".join(["writes", window(case), numbers(case["header"]), entry(case), before, answer, after])
+    return " ".join(["writes", format, window(case), numbers(case["header"]), entry(case), before, answer, after])
+
+
+def statement(name, case):
+    side = name.rpartition("-")[0]
+    made = load_case if side.startswith("load") else write_case
+    return STATEMENT.format(name=name, case=made(SIDES[side], case))
 
 
 def unfoldable():
@@ -201,10 +210,7 @@ def write_crates(folder, cases):
         if (ROOT / "target" / known).is_dir():
             shutil.copytree(ROOT / "target" / known, folder / "target" / known)
 
-    statements = [
-        STATEMENT.format(name=name, case=load_case(case) if name.startswith("load") else write_case(case))
-        for name, case in cases.items()
-    ]
+    statements = [statement(name, case) for name, case in cases.items()]
     files = {
         "src/lib.rt": "// No function: the statements are in specs.\n",
         "specs/Lib.antt": "pub mod Comparison\npub mod Statements\n",
@@ -227,7 +233,7 @@ def refused(cases):
         return []
     said = ran.stdout + ran.stderr
     errors = re.findall(r"error: (.*)", said)
-    names = [error.split("`")[1] for error in errors if re.match(r"`(load|write)-\d+`:", error)]
+    names = [error.split("`")[1] for error in errors if re.match(r"`(load|write)(-tape)?-\d+`:", error)]
     # any other error can hide statements that were not computed
     if not names or len(names) != len(errors):
         raise Stopped(f"the checker did not come to compute the cases\n{said}")
@@ -243,7 +249,7 @@ def shown(name, value):
 def main():
     seed = sys.argv[1] if len(sys.argv) > 1 else "1"
     try:
-        cases = {**oracle("load", seed), **oracle("write", seed)}
+        cases = {name: case for side in SIDES for name, case in oracle(side, seed).items()}
         wrong = refused(cases)
     except Stopped as reason:
         print(f"definitions: {reason}")

@@ -8,6 +8,7 @@ mod draft;
 mod faulty;
 mod large;
 mod odd;
+pub mod tapes;
 mod valid;
 mod writes;
 

@@ -1,11 +1,12 @@
 //! A second reading of the S-record rules, to compare other programs with.
 //!
-//! `reading` is the loader and the writer in their plainest form. `cases`
-//! draws texts, windows and images that reach every row of the refusal table,
-//! from the numbers of `random`. `script` has cases and answers in the form of
-//! the program `vectors`.
+//! `reading` is the loader and the writer in their plainest form, and `tape`
+//! those of MOS Technology tapes. `cases` draws texts, windows and images that
+//! reach every row of the refusal table, from the numbers of `random`. `script`
+//! has cases and answers in the form of the program `vectors`.
 
 pub mod cases;
 pub mod random;
 pub mod reading;
 pub mod script;
+pub mod tape;

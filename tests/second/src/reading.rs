@@ -32,7 +32,7 @@ pub struct Loaded {
 }
 
 impl Loaded {
-    fn refused(number: u32, record: usize, place: usize, want: u8) -> Loaded {
+    pub(crate) fn refused(number: u32, record: usize, place: usize, want: u8) -> Loaded {
         Loaded {
             refusal: Refusal {
                 number,
@@ -55,6 +55,12 @@ pub struct Written {
     pub refusal: Refusal,
     pub length: usize,
 }
+
+/// Text, base, memory and marks.
+pub type Loader = fn(&[u8], u32, &mut [u8], &mut [u8]) -> Loaded;
+
+/// Base, memory, marks, header, entry and output.
+pub type Writer = fn(u32, &[u8], &[u8], &[u8], Option<u32>, &mut [u8]) -> Written;
 
 /// Loads a text into the window from `base` on.
 pub fn load(text: &[u8], base: u32, memory: &mut [u8], marks: &mut [u8]) -> Loaded {
@@ -105,7 +111,7 @@ pub fn rows_of_refused_record(text: &[u8], base: u32, length: usize) -> Vec<u32>
 }
 
 /// Marks and memory differ in length, or the window passes 2^32.
-fn row_1(base: u32, memory: usize, marks: usize) -> bool {
+pub(crate) fn row_1(base: u32, memory: usize, marks: usize) -> bool {
     marks != memory || u64::from(base) + memory as u64 > 1 << 32
 }
 
@@ -223,7 +229,7 @@ impl Record<'_> {
     }
 }
 
-fn hex_value(character: u8) -> Option<u8> {
+pub(crate) fn hex_value(character: u8) -> Option<u8> {
     match character {
         b'0'..=b'9' => Some(character - b'0'),
         b'A'..=b'F' => Some(character - b'A' + 10),

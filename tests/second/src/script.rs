@@ -1,14 +1,35 @@
 //! The form in which the program `vectors` takes its cases and prints its
 //! answers: crates/vectors/src/main.rt says which.
 
-use crate::reading::{load, write, Loaded, Refusal};
+use crate::reading::{load, write, Loaded, Loader, Refusal, Writer};
+use crate::tape::{load_tape, write_tape};
 
 /// The room that `vectors` has for its input, a window and a canonical text.
 pub const ROOM: usize = 65_536;
 
+/// Which loader and writer a case is for.
+#[derive(Clone, Copy, Debug, PartialEq, Eq)]
+pub enum Format {
+    Srec,
+    Tape,
+}
+
+const FORMATS: [Format; 2] = [Format::Srec, Format::Tape];
+
+impl Format {
+    /// What stands in a heading behind the number of cells.
+    fn sign(self) -> char {
+        match self {
+            Format::Srec => ' ',
+            Format::Tape => ';',
+        }
+    }
+}
+
 /// A text, and the window that it is loaded into.
 #[derive(Clone, Debug, PartialEq, Eq)]
 pub struct Case {
+    pub format: Format,
     pub name: String,
     pub base: u32,
     pub cells: usize,
@@ -20,6 +41,7 @@ impl Case {
     pub fn new(name: String, base: u32, cells: usize, text: Vec<u8>) -> Option<Case> {
         let fits = cells <= ROOM && !text.contains(&b'@');
         fits.then_some(Case {
+            format: Format::Srec,
             name,
             base,
             cells,
@@ -27,8 +49,14 @@ impl Case {
         })
     }
 
+    /// The same text in the same window, for the calls of another format.
+    pub fn of(self, format: Format) -> Case {
+        Case { format, ..self }
+    }
+
     fn heading(&self) -> String {
-        format!("@{:08X}:{:08X} {}\n", self.base, self.cells, self.name)
+        let sign = self.format.sign();
+        format!("@{:08X}:{:08X}{sign}{}\n", self.base, self.cells, self.name)
     }
 
     /// The case as `vectors` reads it.
@@ -39,6 +67,10 @@ impl Case {
     /// What `vectors` has to print for it.
     pub fn answer(&self) -> Vec<u8> {
         let (mut memory, mut marks) = (vec![0; self.cells], vec![0; self.cells]);
+        let (load, write): (Loader, Writer) = match self.format {
+            Format::Srec => (load, write),
+            Format::Tape => (load_tape, write_tape),
+        };
         let loaded = load(&self.text, self.base, &mut memory, &mut marks);
         let mut printed = self.heading() + &answer_line(&loaded);
         if loaded.refusal.number != 0 {
@@ -66,13 +98,19 @@ fn parse_case(script: &[u8]) -> Option<Case> {
     let end = script.iter().position(|&c| c == b'\n')?;
     let heading = std::str::from_utf8(&script[..end]).ok()?;
     let (base, rest) = heading.split_once(':')?;
-    let (cells, name) = rest.split_once(' ')?;
-    Case::new(
+    // Any sign may stand in a name, too: the one behind the digits counts.
+    let (cells, rest) = rest.split_at(rest.find(|c: char| !c.is_ascii_hexdigit())?);
+    let mut named = FORMATS
+        .iter()
+        .filter_map(|&format| Some((format, rest.strip_prefix(format.sign())?)));
+    let (format, name) = named.next()?;
+    let case = Case::new(
         name.to_string(),
         u32::from_str_radix(base, 16).ok()?,
         usize::from_str_radix(cells, 16).ok()?,
         script[end + 1..].to_vec(),
-    )
+    );
+    case.map(|case| case.of(format))
 }
 
 fn refusal_words(refusal: &Refusal) -> String {

@@ -1,7 +1,7 @@
 //! The cases of crates/vectors, by the second reading: `rt check vectors` holds
 //! the proved library to the same file.
 
-use second::script::{parse, Case};
+use second::script::{parse, Case, Format};
 use std::fs;
 use std::path::Path;
 
@@ -27,4 +27,37 @@ fn script_is_parsed_whole() {
         cases.iter().flat_map(Case::script).collect::<Vec<u8>>(),
         script
     );
+}
+
+/// A space or `;` behind the number of cells, and nothing in the name or the
+/// text, says which calls a case is for.
+#[test]
+fn headings_name_the_format() {
+    let script = b"@00000000:00000010 ;tape; a\n;0000000000\n\
+        @00000000:00000010; b: c\n;010001bb00bd\0;0000010001@00000000:00000010;\nS9030000FC\n";
+    let cases = parse(script).unwrap();
+    let found: Vec<(Format, &str)> = cases.iter().map(|c| (c.format, &c.name[..])).collect();
+    let wanted = [
+        (Format::Srec, ";tape; a"),
+        (Format::Tape, " b: c"),
+        (Format::Tape, ""),
+    ];
+    assert_eq!(found, wanted);
+    let scripts: Vec<u8> = cases.iter().flat_map(Case::script).collect();
+    assert_eq!(scripts, script);
+    let refused = "record 1 at 0 want 00 records 0 cells 0 entry none header 0:\n";
+    let answers: Vec<u8> = cases.iter().flat_map(Case::answer).collect();
+    assert_eq!(
+        String::from_utf8(answers).unwrap(),
+        format!(
+            "@00000000:00000010 ;tape; a\n4 {refused}\
+            @00000000:00000010; b: c\n\
+            0 record 0 at 0 want 00 records 1 cells 1 entry none header 0:\n\
+            ;010001BB00BD\r\n;0000010001\r\n\
+            @00000000:00000010;\n4 {refused}"
+        )
+    );
+    for heading in ["@0:10\n", "@0:10,a\n", "@0 10;a\n", "@0:10"] {
+        assert_eq!(parse(heading.as_bytes()), None, "{heading}");
+    }
 }

@@ -1,11 +1,12 @@
 //! Prints small cases with their results, one line of JSON for each.
 
-use second::cases::{load_case, write_case, SMALL};
-use second::reading::{load, write};
+use second::cases::{load_case, tapes, write_case, LoadCase, WriteCase, SMALL};
+use second::reading::{load, write, Loader, Writer};
+use second::tape::{load_tape, write_tape};
 use std::io::{self, BufWriter, Write};
 use std::process::ExitCode;
 
-const USAGE: &str = "usage: cases load|write SEED COUNT";
+const USAGE: &str = "usage: cases load|write|load-tape|write-tape SEED COUNT";
 
 fn main() -> ExitCode {
     let arguments: Vec<String> = std::env::args().skip(1).collect();
@@ -30,8 +31,14 @@ fn parse(arguments: &[String]) -> Option<(Line, u64, u64)> {
         return None;
     };
     let line: Line = match side.as_str() {
-        "load" => load_line,
-        "write" => write_line,
+        "load" => |seed, index| load_line(&load_case(seed, index, SMALL), load),
+        "write" => |seed, index| write_line(&write_case(seed, index, SMALL), write),
+        "load-tape" => {
+            |seed, index| load_line(&tapes::load_case(seed, index, tapes::SMALL), load_tape)
+        }
+        "write-tape" => {
+            |seed, index| write_line(&tapes::write_case(seed, index, tapes::SMALL), write_tape)
+        }
         _ => return None,
     };
     Some((line, seed.parse().ok()?, count.parse().ok()?))
@@ -45,8 +52,7 @@ fn print(line: Line, seed: u64, count: u64) -> io::Result<()> {
     out.flush()
 }
 
-fn load_line(seed: u64, index: u64) -> String {
-    let case = load_case(seed, index, SMALL);
+fn load_line(case: &LoadCase, load: Loader) -> String {
     let mut memory = case.memory.clone();
     let mut marks = case.marks.clone();
     let loaded = load(&case.text, case.base, &mut memory, &mut marks);
@@ -68,8 +74,7 @@ fn load_line(seed: u64, index: u64) -> String {
     ])
 }
 
-fn write_line(seed: u64, index: u64) -> String {
-    let case = write_case(seed, index, SMALL);
+fn write_line(case: &WriteCase, write: Writer) -> String {
     let mut out = vec![0; case.room];
     let written = write(
         case.base,

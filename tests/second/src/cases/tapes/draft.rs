@@ -1,0 +1,112 @@
+//! Lines in the making and how they become a tape.
+
+use crate::random::Random;
+
+/// A line by its fields, so that each can be made wrong alone.
+#[derive(Clone)]
+pub struct Draft {
+    pub mark: u8,
+    pub length: u8,
+    /// The address, or the number of data lines.
+    pub number: u16,
+    pub data: Vec<u8>,
+    pub check: u16,
+}
+
+impl Draft {
+    /// A data line that is right.
+    pub fn new(address: u64, data: &[u8]) -> Draft {
+        let mut draft = Draft {
+            mark: b';',
+            length: data.len() as u8,
+            number: address as u16,
+            data: data.to_vec(),
+            check: 0,
+        };
+        draft.check = draft.sum();
+        draft
+    }
+
+    /// A last line, right if there are so many data lines.
+    pub fn last(number: u64) -> Draft {
+        Draft {
+            mark: b';',
+            length: 0,
+            number: number as u16,
+            data: Vec::new(),
+            check: number as u16,
+        }
+    }
+
+    /// The usual sum of length, address and data.
+    pub fn sum(&self) -> u16 {
+        let data = self.data.iter();
+        let sum = data.fold(0u16, |sum, &byte| sum.wrapping_add(u16::from(byte)));
+        sum.wrapping_add(u16::from(self.length) + self.number / 256 + self.number % 256)
+    }
+
+    pub fn text(&self) -> Vec<u8> {
+        let data: String = self.data.iter().map(|byte| format!("{byte:02X}")).collect();
+        let (length, number, check) = (self.length, self.number, self.check);
+        let digits = format!("{length:02X}{number:04X}{data}{check:04X}");
+        [&[self.mark], digits.as_bytes()].concat()
+    }
+}
+
+/// The last line behind so many data lines.
+pub fn last_line(number: usize) -> Vec<u8> {
+    Draft::last(number as u64).text()
+}
+
+/// What stands between lines: as 003 has it, as most systems do, and others.
+const ENDS: [&[u8]; 10] = [
+    b"\r\n\0\0\0\0\0\0",
+    b"\r\n",
+    b"\n",
+    b"\r",
+    b"\0",
+    b"\x13",
+    b"\n\n\n",
+    b"\r\0",
+    b"\x13\r\n",
+    b"\0\x13\n\r\0",
+];
+
+/// Makes one tape of the lines, in one of the styles of separators and digits.
+pub fn join(random: &mut Random, lines: &[Vec<u8>]) -> Vec<u8> {
+    let mixed_ends = random.chance(1, 3);
+    let mut end = random.pick(&ENDS);
+    let lower_of_four = random.pick(&[0, 4, 2]);
+    let mut text = Vec::new();
+    if random.chance(1, 6) {
+        text.extend(end);
+    }
+    for (index, line) in lines.iter().enumerate() {
+        if index > 0 {
+            text.extend(end);
+        }
+        put_digits(random, &mut text, line, lower_of_four);
+        if mixed_ends {
+            end = random.pick(&ENDS);
+        }
+    }
+    if random.chance(2, 3) {
+        text.extend(end);
+    }
+    if random.chance(1, 4) {
+        text.push(0x13);
+    }
+    text
+}
+
+/// Only hex digits change case.
+fn put_digits(random: &mut Random, text: &mut Vec<u8>, line: &[u8], lower_of_four: u64) {
+    for (index, &character) in line.iter().enumerate() {
+        let digit = index >= 1 && (b'A'..=b'F').contains(&character);
+        if digit && random.chance(lower_of_four, 4) {
+            text.push(character.to_ascii_lowercase());
+        } else {
+            text.push(character);
+        }
+    }
+}

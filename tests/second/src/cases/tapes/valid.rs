@@ -1,0 +1,84 @@
+//! Tapes that are accepted, and the same without their last line.
+
+use super::super::{in_window, Limits, LoadCase};
+use super::draft::{join, last_line, Draft};
+use super::{any_window, REACH};
+use crate::random::Random;
+
+/// A tape in any style that fits its window.
+pub fn accepted(random: &mut Random, limits: Limits) -> LoadCase {
+    let window = any_window(random, limits);
+    let lines = finished(random, limits, window);
+    let text = join(random, &lines);
+    in_window(random, text, window)
+}
+
+/// A tape that is right but for its missing last line: row 14.
+pub fn unfinished(random: &mut Random, limits: Limits) -> LoadCase {
+    let window = any_window(random, limits);
+    let mut lines = finished(random, limits, window);
+    lines.pop();
+    let text = match random.below(8) {
+        0 => Vec::new(),
+        1 => join(random, &[Vec::new(), Vec::new()]),
+        _ => join(random, &lines),
+    };
+    in_window(random, text, window)
+}
+
+/// Data lines in any order, and the last line.
+fn finished(random: &mut Random, limits: Limits, window: (u64, u64)) -> Vec<Vec<u8>> {
+    let cells = (window.0, window.1.min(REACH).max(window.0));
+    let mut lines = if random.chance(1, 8) && cells.1 - cells.0 >= 255 {
+        one_cell_lines(random, cells)
+    } else {
+        data_lines(random, limits, cells)
+    };
+    random.shuffle(&mut lines);
+    lines.push(last_line(lines.len()));
+    lines
+}
+
+/// About as many lines as need a second digit pair for their number.
+pub fn one_cell_lines(random: &mut Random, (low, high): (u64, u64)) -> Vec<Vec<u8>> {
+    let most = high - low;
+    let some = random.between(0, most);
+    let number = random.pick(&[255, 256, 256, 257, some, most]).min(most);
+    let mut addresses: Vec<u64> = (low..high).collect();
+    random.shuffle(&mut addresses);
+    addresses.truncate(number as usize);
+    addresses
+        .into_iter()
+        .map(|address| Draft::new(address, &random.bytes(1)).text())
+        .collect()
+}
+
+/// Data lines without overlap. The window is cut at random and some of the
+/// pieces are used, so that lines touch each other and the window's ends.
+fn data_lines(random: &mut Random, limits: Limits, (low, high): (u64, u64)) -> Vec<Vec<u8>> {
+    let mut cuts = vec![low, high];
+    for _ in 0..random.size(0, limits.records) {
+        cuts.push(random.between(low, high));
+    }
+    cuts.sort_unstable();
+    let mut lines = Vec::new();
+    for piece in cuts.windows(2) {
+        let most = limits.data as u64;
+        let length = (piece[1] - piece[0]).min(most);
+        let address = random.pick(&[piece[0], piece[1] - length]);
+        if length > 0 && random.chance(3, 4) {
+            let data = content(random, length as usize);
+            lines.push(Draft::new(address, &data).text());
+        }
+    }
+    lines
+}
+
+/// Any bytes, or the largest.
+fn content(random: &mut Random, length: usize) -> Vec<u8> {
+    if random.chance(1, 6) {
+        vec![0xFF; length]
+    } else {
+        random.bytes(length)
+    }
+}
