@@ -1,1 +1,2 @@
 pub mod AcrossFormats
+pub mod ChoiceLaws

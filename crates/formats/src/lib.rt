@@ -1,1 +1,47 @@
-// The formats side by side: theorems, no functions.
+// The formats of texts, by value: what stands between lines. The theorems across formats are here, too.
+ghost use mathlib.Core.Path.{_≡_};
+ghost use Rattle.srec.specs.Lines.{isEnd};
+ghost use Rattle.tape.specs.Lines.{isGap};
+ghost use Rattle.formats.specs.Choices.{formatOf};
+
+// The character that ends the transmission of a tape.
+const XOFF: u8 = 0x13;
+
+// S-records, or a paper tape.
+pub enum Format {
+    Records,
+    Tape,
+}
+
+// A record's end: LF or CR.
+fn is_end(c: u8) -> bool
+    ensures { λ r. ⌜ r ≡ isEnd c ⌝ }
+{
+    c == b'\n' || c == b'\r'
+}
+
+// What stands between the lines of a tape: CR, LF, NUL or XOFF.
+fn is_pause(c: u8) -> bool
+    ensures { λ r. ⌜ r ≡ isGap c ⌝ }
+{
+    if c == b'\r' {
+        return true;
+    }
+    if c == b'\n' {
+        return true;
+    }
+    if c == 0 {
+        return true;
+    }
+    c == XOFF
+}
+
+// Is it a character between lines?
+pub fn is_gap(format: Format, c: u8) -> bool
+    ensures { λ r. ⌜ r ≡ formatOf format .gap c ⌝ }
+{
+    match format {
+        Format::Records => is_end(c),
+        Format::Tape => is_pause(c),
+    }
+}

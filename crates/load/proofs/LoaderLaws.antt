@@ -22,17 +22,16 @@ use Rattle.text.specs.Finds.{firstHeader}
 use Rattle.text.specs.Formats.{plan}
 use Rattle.text.specs.Load.{load, headerOf, loadAnswer, memoryAfter, marksAfter}
 use Rattle.text.proofs.FormatLaws.{content}
-use Rattle.srec.specs.Lines.{isEnd}
-use Rattle.srec.specs.Formats.{srec}
-use Rattle.srec.proofs.LimitLaws.{limits}
-use Rattle.srec.proofs.SrecFormatLaws.{lawful}
+use Rattle.formats.specs.declared.Format.{Format}
+use Rattle.formats.specs.Choices.{formatOf}
+use Rattle.formats.proofs.ChoiceLaws.{limitsOf, lawfulOf}
 use Rattle.checking.specs.declared.Checked.the-variants.{Refused, Accepted}
 use Rattle.checking.specs.Answers.{checkedAs}
 use Rattle.storing.specs.Stores.{Accepts}
 
 -- the outcome of a load, by what its caller lends
-abbrev pub outcome : ℕ → List ℕ → List ℕ → List ℕ → Outcome
-outcome base memory marks text = load (windowOf base memory marks) (plan srec text)
+abbrev pub outcome : Format → ℕ → List ℕ → List ℕ → List ℕ → Outcome
+outcome format base memory marks text = load (windowOf base memory marks) (plan (formatOf format) text)
 
 -- what a load with this outcome answers and leaves
 abbrev pub Answered : List ℕ → List ℕ → Outcome → Loaded → List ℕ → List ℕ → Type 0
@@ -75,9 +74,9 @@ marks-number : (marks cleared : List ℕ) (o : Outcome) → length cleared ≡ l
 marks-number marks cleared (refused f) e = ap (λ (n : ℕ). replicate n 0) e
 marks-number marks cleared (accepted s img) e = refl
 
-module _ (base : ℕ) (memory marks text : List ℕ) {allowed : Bool} (a : allowed ≡ not (row1 (windowOf base memory marks))) where
+module _ (format : Format) (base : ℕ) (memory marks text : List ℕ) {allowed : Bool} (a : allowed ≡ not (row1 (windowOf base memory marks))) where
   -- row 1
-  pub row-1 : allowed ≡ false → outcome base memory marks text ≡ refused (refusal 1 0 0)
+  pub row-1 : allowed ≡ false → outcome format base memory marks text ≡ refused (refusal 1 0 0)
   unfolding load
   row-1 h = rw (sym (Bool·not-not (row1 (windowOf base memory marks))) ∙ ap not (sym a ∙ h))
 
@@ -92,15 +91,15 @@ module _ (base : ℕ) (memory marks text : List ℕ) {allowed : Bool} (a : allow
 
     -- what the text comes to behind row 1
     abbrev whole : Outcome
-    whole = placed base (blank (length memory)) (plan srec text)
+    whole = placed base (blank (length memory)) (plan (formatOf format) text)
 
     -- the load comes to the same
-    is-placed : outcome base memory marks text ≡ whole
+    is-placed : outcome format base memory marks text ≡ whole
     unfolding load
     is-placed = rw none
 
     -- the marks that the check leaves are the load's
-    marks-are : (marks′ : List ℕ) → marks′ ≡ marksLeft Bytes cleared whole → marks′ ≡ marksAfter marks (outcome base memory marks text)
+    marks-are : (marks′ : List ℕ) → marks′ ≡ marksLeft Bytes cleared whole → marks′ ≡ marksAfter marks (outcome format base memory marks text)
     marks-are marks′ m =
         m ∙ marks-bytes cleared whole ∙ marks-number marks cleared whole (ap length clear ∙ length-replicate (length marks) 0)
         ∙ ap (marksAfter marks) (sym is-placed)
@@ -112,22 +111,23 @@ module _ (base : ℕ) (memory marks text : List ℕ) {allowed : Bool} (a : allow
     -- a refusal of the check
     pub checked-refused : (f : Refusal) (r : Loaded) (marks′ : List ℕ) → Refused f ≡ checkedAs whole → r ≡ loadAnswer (refused f)
         → marks′ ≡ marksLeft Bytes cleared whole
-        → Answered memory marks (outcome base memory marks text) r memory marks′
+        → Answered memory marks (outcome format base memory marks text) r memory marks′
     checked-refused f r marks′ q e m =
-        let is : outcome base memory marks text ≡ refused f = is-placed ∙ told-no whole f q in
+        let is : outcome format base memory marks text ≡ refused f = is-placed ∙ told-no whole f q in
         (e ∙ ap loadAnswer (sym is), (sym (ap (memoryAfter memory) is), marks-are marks′ m))
 
     -- an accepted text
     pub checked-accepted : (x : Entry) (r c : ℕ) (marks′ memory′ : List ℕ) (head : Header) → Accepted x r c ≡ checkedAs whole
         → marks′ ≡ marksLeft Bytes cleared whole
-        → memory′ ≡ memoryAfter memory whole → head ≡ headerOf (firstHeader (srec .part) (lines isEnd 0 text))
-        → Answered memory marks (outcome base memory marks text)
+        → memory′ ≡ memoryAfter memory whole → head ≡ headerOf (firstHeader (formatOf format .part) (lines (formatOf format .gap) 0 text))
+        → Answered memory marks (outcome format base memory marks text)
         (record { refusal = refusal 0 0 0; header = head; entry = x; records = r; cells = c }) memory′ marks′
     checked-accepted x r c marks′ memory′ head q m s d =
         let y : Yes whole x r c = told-yes whole x r c q in
-        let p : PlanAccepted (plan srec text) base (blank (length memory)) (y .sum) (y .img)
-        = placed-inv (plan srec text) base (blank (length memory)) (y .sum) (y .img) (y .is) in
-        let hd : head ≡ headerOf (y .sum .header) = d ∙ ap headerOf (sym (content srec limits lawful text (y .sum) (p .ends) .at-first)) in (
+        let p : PlanAccepted (plan (formatOf format) text) base (blank (length memory)) (y .sum) (y .img)
+        = placed-inv (plan (formatOf format) text) base (blank (length memory)) (y .sum) (y .img) (y .is) in
+        let hd : head ≡ headerOf (y .sum .header)
+        = d ∙ ap headerOf (sym (content (formatOf format) (limitsOf format) (lawfulOf format) text (y .sum) (p .ends) .at-first)) in (
           (λ i. record { refusal = refusal 0 0 0; header = hd i; entry = y .entry i; records = y .records i; cells = y .cells i })
               ∙ ap loadAnswer (sym (is-placed ∙ y .is)),
           (s ∙ ap (memoryAfter memory) (sym is-placed), marks-are marks′ m),

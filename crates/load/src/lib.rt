@@ -1,5 +1,6 @@
 // The loader: a checking pass over the text that uses the lent marks, then a storing pass into the lent memory.
 use checking::Checked;
+use formats::Format;
 use marks::Form;
 use window::Entry;
 use window::Header;
@@ -12,6 +13,8 @@ ghost use Rattle.window.specs.Plans.Outcome.{refused};
 ghost use Rattle.text.specs.Formats.{plan};
 ghost use Rattle.text.specs.Load.{load, loadAnswer, memoryAfter, marksAfter};
 ghost use Rattle.srec.specs.Formats.{srec};
+ghost use Rattle.tape.specs.Formats.{tape};
+ghost use Rattle.formats.specs.Choices.{formatOf};
 
 // The answer of a load that is refused.
 fn refused_answer(refusal: Refusal) -> Loaded
@@ -42,11 +45,11 @@ fn accepted_answer(header: Header, entry: Entry, records: usize, cells: usize) -
     }
 }
 
-// Loads a text into a window. Nothing is stored before the whole text was checked, so a refusal leaves memory unchanged.
-pub fn load(text: &[u8], base: u32, memory: &mut [u8], marks: &mut [u8]) -> Loaded
-    ensures answer { λ r. ⌜ r ≡ loadAnswer (load (windowOf base (now (memory .entry)) (now (marks .entry))) (plan srec (now (text .entry)))) ⌝ }
-    ensures memory { λ _. ⌜ now (memory .exit) ≡ memoryAfter (now (memory .entry)) (load (windowOf base (now (memory .entry)) (now (marks .entry))) (plan srec (now (text .entry)))) ⌝ }
-    ensures marks { λ _. ⌜ now (marks .exit) ≡ marksAfter (now (marks .entry)) (load (windowOf base (now (memory .entry)) (now (marks .entry))) (plan srec (now (text .entry)))) ⌝ }
+// Loads a text of the format that is told into a window. Nothing is stored before the whole text was checked, so a refusal leaves memory unchanged.
+fn load_as(format: Format, text: &[u8], base: u32, memory: &mut [u8], marks: &mut [u8]) -> Loaded
+    ensures answer { λ r. ⌜ r ≡ loadAnswer (load (windowOf base (now (memory .entry)) (now (marks .entry))) (plan (formatOf format) (now (text .entry)))) ⌝ }
+    ensures memory { λ _. ⌜ now (memory .exit) ≡ memoryAfter (now (memory .entry)) (load (windowOf base (now (memory .entry)) (now (marks .entry))) (plan (formatOf format) (now (text .entry)))) ⌝ }
+    ensures marks { λ _. ⌜ now (marks .exit) ≡ marksAfter (now (marks .entry)) (load (windowOf base (now (memory .entry)) (now (marks .entry))) (plan (formatOf format) (now (text .entry)))) ⌝ }
 {
     let allowed = window::is_allowed(base, memory, marks);
     marks::clear(marks);
@@ -56,7 +59,7 @@ pub fn load(text: &[u8], base: u32, memory: &mut [u8], marks: &mut [u8]) -> Load
     let table = hex::digit_table();
     let low = base as usize;
     let size = memory.len();
-    let checked = checking::check(&table, text, low, Form::Bytes, marks, size);
+    let checked = checking::check(format, &table, text, low, Form::Bytes, marks, size);
     match checked {
         Checked::Refused(refusal) => return refused_answer(refusal),
         Checked::Accepted {
@@ -64,9 +67,27 @@ pub fn load(text: &[u8], base: u32, memory: &mut [u8], marks: &mut [u8]) -> Load
             records,
             cells,
         } => {
-            storing::store_all(&table, text, low, memory);
-            let header = storing::header_of(&table, text);
+            storing::store_all(format, &table, text, low, memory);
+            let header = storing::header_of(format, &table, text);
             return accepted_answer(header, entry, records, cells);
         }
     }
+}
+
+// Loads a text of S-records into a window.
+pub fn load(text: &[u8], base: u32, memory: &mut [u8], marks: &mut [u8]) -> Loaded
+    ensures answer { λ r. ⌜ r ≡ loadAnswer (load (windowOf base (now (memory .entry)) (now (marks .entry))) (plan srec (now (text .entry)))) ⌝ }
+    ensures memory { λ _. ⌜ now (memory .exit) ≡ memoryAfter (now (memory .entry)) (load (windowOf base (now (memory .entry)) (now (marks .entry))) (plan srec (now (text .entry)))) ⌝ }
+    ensures marks { λ _. ⌜ now (marks .exit) ≡ marksAfter (now (marks .entry)) (load (windowOf base (now (memory .entry)) (now (marks .entry))) (plan srec (now (text .entry)))) ⌝ }
+{
+    load_as(Format::Records, text, base, memory, marks)
+}
+
+// Loads a paper tape into a window.
+pub fn load_tape(text: &[u8], base: u32, memory: &mut [u8], marks: &mut [u8]) -> Loaded
+    ensures answer { λ r. ⌜ r ≡ loadAnswer (load (windowOf base (now (memory .entry)) (now (marks .entry))) (plan tape (now (text .entry)))) ⌝ }
+    ensures memory { λ _. ⌜ now (memory .exit) ≡ memoryAfter (now (memory .entry)) (load (windowOf base (now (memory .entry)) (now (marks .entry))) (plan tape (now (text .entry)))) ⌝ }
+    ensures marks { λ _. ⌜ now (marks .exit) ≡ marksAfter (now (marks .entry)) (load (windowOf base (now (memory .entry)) (now (marks .entry))) (plan tape (now (text .entry)))) ⌝ }
+{
+    load_as(Format::Tape, text, base, memory, marks)
 }

@@ -1,27 +1,21 @@
--- A record that was read has no line end inside, so that it is the next record of its text if it may end where it ends.
-use mathlib.Core.Path.{_≡_, ap, _∙_, subst}
+-- A record that was read has a character, and no line end inside.
+use mathlib.Core.Path.{_≡_}
 use Prim.Native.Nat.{ℕ, _-_, _≤_, _<_}
 use native.Mathlib.Omega.{arith}
 use mathlib.Core.Bool.{true, false}
 use mathlib.Core.List.{List, [], _∷_}
 use mathlib.Core.Option.{none, some}
 use lib.Dec.{eqb}
-use lib.ListN.{length, drop}
+use lib.ListN.{length}
 use borrow.Author.Tests.{eqb-true}
 use Rattle.lists.proofs.TestLaws.{by-test}
-use Rattle.lists.proofs.PartLaws.{part-long}
 use Rattle.hex.specs.Digits.{between, isHex, firstBad}
 use Rattle.hex.proofs.DigitLaws.{first-is}
-use Rattle.text.specs.declared.Found.the-variants.{At}
-use Rattle.text.specs.Lines.{front, lines}
-use Rattle.text.specs.Finds.{found}
-use Rattle.text.proofs.LineLaws.{Free}
-use Rattle.text.proofs.FindLaws.{part, from, Next, next-free, next-is}
+use Rattle.text.specs.Lines.{front}
+use Rattle.text.proofs.LineLaws.{Free, all-front}
 use Rattle.srec.specs.Lines.{isEnd}
 use Rattle.srec.specs.Kinds.{Kind, kindOf}
 use Rattle.srec_read.proofs.FieldLaws.{Fields, Got}
-
--- ---- no line end
 
 -- a character that is neither LF nor CR
 not-end : (c : ℕ) → (c ≡ 10 → ⊥) → (c ≡ 13 → ⊥) → isEnd c ≡ false
@@ -59,15 +53,6 @@ good-free (c ∷ d ∷ cs) k a ds f =
     let letter = not-end c (λ e. omega (arith, f .letter, e)) (λ e. omega (arith, f .letter, e)) in
     (letter, (kind-free d k (f .type-known), digits-free cs (f .digits)))
 
--- ---- the next record
-
--- a good record that begins where the next one does, and ends where one may end
-pub next-good : (text : List ℕ) (at f e : ℕ) → at ≤ length text → f ≡ from isEnd text at → f ≤ e → e ≤ length text
-    → length (front isEnd (drop e text)) ≡ 0 → {kind a n : ℕ} → Got (part text f e) kind a n → Next isEnd text at f e
-next-good text at f e i b l h s {kind} {a} g =
-    let c : Free isEnd (part text f e) = good-free (part text f e) (g .k) a (g .ds) (g .fields) in
-    let long : length (part text f e) ≡ e - f = part-long text f e l h in
-    let ahead : from isEnd text at < e = omega (arith, g .fields .long, long, b) in
-    let p : At f e ≡ found (lines isEnd at (drop at text))
-    = ap (λ (j : ℕ). At j e) b ∙ next-free isEnd text at e ahead h (subst (λ (j : ℕ). Free isEnd (part text j e)) b c) s in
-    next-is isEnd text at f e i p
+-- so it is before the first line end as a whole
+pub good-line : (chars : List ℕ) {kind a n : ℕ} → Got chars kind a n → (0 < length chars) × (front isEnd chars ≡ chars)
+good-line chars {kind} {a} g = (omega (arith, g .fields .long), all-front isEnd chars (good-free chars (g .k) a (g .ds) (g .fields)))

@@ -1,19 +1,16 @@
-// What a record does: it is read, judged against what came before it (rows 8, 10 and 11, on numbers alone), and taken from its text.
+// What a record does: it is read, and judged against what came before it (rows 8, 10 and 11, on numbers alone).
 use srec_read::Record;
-use text::Found;
 use text::State;
 use text::Step;
-use text::Taken;
+use text::Sure;
 use window::Entry;
 ghost use mathlib.Core.Path.{_≡_};
 ghost use mathlib.Core.Bool.{true};
 ghost use mathlib.Core.List.{[]};
 ghost use Prim.Native.Nat.{_+_, _*_, _^_, _≤_, _<_};
-ghost use lib.ListN.{length, drop, replicate};
+ghost use lib.ListN.{length, replicate};
 ghost use Rattle.hex.specs.Tables.{digitTable};
-ghost use Rattle.text.specs.Lines.{lines};
-ghost use Rattle.text.specs.Steps.{stateWith, asStep, taken};
-ghost use Rattle.srec.specs.Lines.{isEnd};
+ghost use Rattle.text.specs.Steps.{stateWith, asStep, SureIs};
 ghost use Rattle.srec.specs.Kinds.{kindOf, isKnown, known};
 ghost use Rattle.srec.specs.Judging.{judge as judgeScan};
 ghost use Rattle.srec.specs.Formats.{srec};
@@ -68,9 +65,9 @@ fn unread(answer: Record) -> Step
 }
 
 // What a record does that stands at a place of its text, behind the records before it: rows 3 to 8, 10 and 11.
-fn step_of(table: &[u32; 256], state: State, chars: &[u8], place: usize) -> Step
+pub fn step_of(table: &[u32; 256], state: State, chars: &[u8], place: usize) -> Step
     requires { ⌜ (now table ≡ digitTable) × (place + length (now chars) < 2 ^ 64) ⌝ }
-    requires { ⌜ (state .number + 1 < 2 ^ 64) × (state .records + 1 < 2 ^ 64) × (state .cells + length (now chars) < 2 ^ 64) ⌝ }
+    requires { ⌜ (state .number + length (now chars) < 2 ^ 64) × (state .records + length (now chars) < 2 ^ 64) × (state .cells + length (now chars) < 2 ^ 64) ⌝ }
     ensures { λ r. ⌜ r ≡ asStep place (stateWith [] state) (srec .step (stateWith [] state) (now (chars .entry))) ⌝ }
 {
     let answer = srec_read::read_record(table, chars, place);
@@ -80,31 +77,16 @@ fn step_of(table: &[u32; 256], state: State, chars: &[u8], place: usize) -> Step
     judge(state, kind, address, count, place)
 }
 
-// Takes the next record by looking for its end. A load comes here where one of rows 3 to 7 refuses a record, and behind the last record.
-fn search_next(table: &[u32; 256], state: State, text: &[u8], at: usize) -> Taken
-    requires { ⌜ (now table ≡ digitTable) × (at ≤ length (now text)) × (state .number ≤ at) × (state .records ≤ at) × (state .cells ≤ at) ⌝ }
-    ensures { λ r. ⌜ r ≡ taken srec state (lines isEnd at (drop at (now (text .entry)))) ⌝ }
+// The same for a record that no row of 3 to 7 refuses, by one walk over its digits. It may only say yes.
+pub fn good_step(table: &[u32; 256], state: State, chars: &[u8], place: usize) -> Sure
+    requires { ⌜ (now table ≡ digitTable) × (place + length (now chars) < 2 ^ 64) ⌝ }
+    requires { ⌜ (state .number + length (now chars) < 2 ^ 64) × (state .records + length (now chars) < 2 ^ 64) × (state .cells + length (now chars) < 2 ^ 64) ⌝ }
+    ensures { λ r. ⌜ SureIs srec state place (now (chars .entry)) r ⌝ }
 {
-    let found = srec_lines::next_record(text, at);
-    let Found::At { from, to } = found else {
-        return Taken::Nothing;
-    };
-    let step = step_of(table, state, &text[from..to], from);
-    Taken::Line { from, to, step }
-}
-
-// Takes the next record from a place on, and what it does behind the records before it. Its count says where it may end. A good
-// record that ends there has no line end inside, so it is the next one. This way may only say yes; for all else the end is searched.
-pub fn take_next(table: &[u32; 256], state: State, text: &[u8], at: usize) -> Taken
-    requires { ⌜ (now table ≡ digitTable) × (at ≤ length (now text)) × (state .number ≤ at) × (state .records ≤ at) × (state .cells ≤ at) ⌝ }
-    ensures { λ r. ⌜ r ≡ taken srec state (lines isEnd at (drop at (now (text .entry)))) ⌝ }
-{
-    let from = at + srec_lines::count_ends(&text[at..]);
-    let to = srec_lines::counted_end(table, text, from);
-    let answer = srec_read::read_good(table, &text[from..to]);
+    let answer = srec_read::read_good(table, chars);
     let Record::Good(kind, address, count) = answer else {
-        return search_next(table, state, text, at);
+        return Sure::No;
     };
-    let step = judge(state, kind, address, count, from);
-    Taken::Line { from, to, step }
+    let step = judge(state, kind, address, count, place);
+    Sure::Yes(step)
 }

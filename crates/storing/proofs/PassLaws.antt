@@ -4,8 +4,7 @@ use Prim.Native.Nat.{ℕ, suc, _+_, _-_, _*_, _≤_}
 use native.Mathlib.Omega.{arith}
 use mathlib.Core.List.{List, [], _∷_}
 use mathlib.Core.Logic.{_⊎_, inl, inr, ⊎-elim}
-use lib.ListN.{length, getD, drop}
-use Rattle.hex.specs.Digits.{byteOf}
+use lib.ListN.{length, drop}
 use Rattle.lists.proofs.TestLaws.{by-test}
 use Rattle.window.specs.declared.Refusal.{Refusal}
 use Rattle.window.specs.declared.Entry.{Entry}
@@ -26,13 +25,15 @@ use Rattle.text.specs.Load.{memoryAfter}
 use Rattle.text.proofs.FindLaws.{part, Next, next-is}
 use Rattle.text.proofs.TurnLaws.{Walk, walk-start, walk-none, walk-refused, walk-skip, walk-title, walk-ended, walk-store, walk-put}
 use Rattle.text.proofs.FormatLaws.{Limits, Lawful, IsRefusal}
-use Rattle.srec.specs.Lines.{isEnd}
-use Rattle.srec.specs.Formats.{srec}
-use Rattle.srec.proofs.LimitLaws.{limits}
-use Rattle.srec.proofs.SrecFormatLaws.{lawful}
-use Rattle.srec_lines.specs.Counts.{LongAsCounted}
+use Rattle.tape_step.proofs.LineFieldLaws.{length-at}
+use Rattle.formats.specs.declared.Format.{Format as Choice}
+use Rattle.formats.specs.declared.Format.the-variants.{Records, Tape}
+use Rattle.formats.specs.Choices.{formatOf}
+use Rattle.formats.proofs.ChoiceLaws.{limitsOf, lawfulOf}
+use Rattle.lines.specs.Counts.{sizeOf, LongAsCounted}
 use Rattle.storing.specs.Stores.{storedBy, Placeable, Accepts}
 use Rattle.storing.proofs.StoreLaws.{Readable, readable}
+use Rattle.storing.proofs.LineLaws.{line-readable}
 
 -- memory shows the image of a walk
 pub record Walking (F : Format) (text : List ℕ) (base : ℕ) (m₀ m : List ℕ) (at : ℕ) : Type 0 where
@@ -163,18 +164,30 @@ module _ (F : Format) (L : Limits) (laws : Lawful F L) (text : List ℕ) (base :
       none : {l : Line} {ls : List Line} → [] ≡ l ∷ ls → ⊥
       none q = let z : _≡_ {A = ℕ} 0 1 = cc in omega arith
 
--- each S-record is as long as its count says
-pub storing-counted : (text : List ℕ) (base : ℕ) (m₀ : List ℕ) → Accepts (placed base (blank (length m₀)) (plan srec text)) → (m : List ℕ) (at : ℕ)
-    → Storing srec text base m₀ m at → LongAsCounted (lines isEnd at (drop at text))
-storing-counted text base m₀ acc m at g = go (lines isEnd at (drop at text)) refl
+-- a line that has room is as long as its count says
+counted : (format : Choice) (own : List ℕ) (base size : ℕ) → Placeable base size (formatOf format .part own) → length own ≡ sizeOf format own
+counted Records own base size p =
+    let r : Readable own base size = readable own base size p in
+    omega (arith, r .fields .long, r .fields .count-is)
+counted Tape own base size p =
+    let g = line-readable own base size p in
+    g .long ∙ ap (λ (n : ℕ). 11 + 2 * n) (sym (length-at own (omega (arith, g .long))))
+
+-- and so is each line that is left
+pub storing-counted : (format : Choice) (text : List ℕ) (base : ℕ) (m₀ : List ℕ)
+    → Accepts (placed base (blank (length m₀)) (plan (formatOf format) text)) → (m : List ℕ) (at : ℕ)
+    → Storing (formatOf format) text base m₀ m at → LongAsCounted format (lines (formatOf format .gap) at (drop at text))
+storing-counted format text base m₀ acc m at g = go (lines (F .gap) at (drop at text)) refl
   where
-    go : (ls : List Line) → lines isEnd at (drop at text) ≡ ls → LongAsCounted (lines isEnd at (drop at text))
-    go [] e = subst LongAsCounted (sym e) tt
+    F : Format
+    F = formatOf format
+
+    go : (ls : List Line) → lines (F .gap) at (drop at text) ≡ ls → LongAsCounted format (lines (F .gap) at (drop at text))
+    go [] e = subst (LongAsCounted format) (sym e) tt
     go (l ∷ ls) e =
         let to : ℕ = l .place + length (l .chars) in
-        let x : Next isEnd text at (l .place) to = next-is isEnd text at (l .place) to (storing-inside srec text base m₀ m at g) (ap found (sym e)) in
+        let x : Next (F .gap) text at (l .place) to
+        = next-is (F .gap) text at (l .place) to (storing-inside F text base m₀ m at g) (ap found (sym e)) in
         let own : List ℕ = part text (l .place) to in
-        let r : Readable own base (length m)
-        = readable own base (length m) (storing-turn srec limits lawful text base m₀ acc m at (l .place) to g x .placeable) in
-        let c : length own ≡ 4 + 2 * byteOf (getD own 2 0) (getD own 3 0) = omega (arith, r .fields .long, r .fields .count-is) in
-        subst LongAsCounted (sym (x .is)) c
+        let turn = storing-turn F (limitsOf format) (lawfulOf format) text base m₀ acc m at (l .place) to g x in
+        subst (LongAsCounted format) (sym (x .is)) (counted format own base (length m) (turn .placeable))

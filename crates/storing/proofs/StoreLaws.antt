@@ -1,18 +1,12 @@
--- What one record that was checked leaves in memory.
-use mathlib.Core.Path.{_≡_, refl, sym, ap, ap₂, _∙_, subst}
-use Prim.Native.Nat.{ℕ, suc, _+_, _-_, _*_, _^_, _≤_, _<_}
-use native.Mathlib.Nat.{add-zero, add-sub-cancel-left}
+-- What one S-record that was checked leaves in memory.
+use mathlib.Core.Path.{_≡_, refl, ap, subst}
+use Prim.Native.Nat.{ℕ, _+_, _*_, _^_, _≤_, _<_}
 use native.Mathlib.Omega.{arith}
 use mathlib.Core.Bool.{false}
-use mathlib.Core.List.{List, [], _∷_}
+use mathlib.Core.List.{List}
 use mathlib.Core.Logic.{⊎-elim, _⊎_}
-use lib.ListN.{length, getD, take, drop, take-append-drop}
-use borrow.Rule.Slice.PartMut.{putMid}
-use Rattle.lists.specs.Lists.{over}
+use lib.ListN.{length, getD}
 use Rattle.window.specs.Plans.{row12}
-use Rattle.window.proofs.FillLaws.{inside}
-use Rattle.lists.proofs.OverLaws.{lent-over}
-use Rattle.hex.specs.Digits.{bytes}
 use Rattle.srec.specs.Kinds.{Kind, kindOf, typeOf, width}
 use Rattle.srec.specs.Kinds.Kind.{S0, Data, S5, End}
 use Rattle.srec.specs.Reading.{Read, read}
@@ -23,6 +17,7 @@ use Rattle.srec_read.specs.Records.{widthOr0}
 use Rattle.srec_read.proofs.KindLaws.{Known, known-kind, type-of-kind}
 use Rattle.srec_read.proofs.FieldLaws.{Fields, read-fields}
 use Rattle.storing.specs.Stores.{storedBy, Placeable}
+use Rattle.storing.proofs.DataLaws.{DataLine}
 
 -- a record that was read, with its fields
 pub record Readable (chars : List ℕ) (base size : ℕ) : Type 0 where
@@ -96,30 +91,6 @@ data-record chars base size r l h =
     go S5 e f c x u q = absurd (omega (arith, c))
     go (End w) e f c x u q = absurd (omega (arith, c))
 
-module _ (m chars : List ℕ) (base w : ℕ) (d : DataRecord chars base (length m) w) where
-  -- no data byte
-  pub none-stored : length (d .ds) ≡ 0 → m ≡ storedBy base m (carried (read chars))
-  unfolding over
-  none-stored z = rw (d .is, nil (d .ds) z, add-zero) (sym (take-append-drop (d .a - base) m))
-    where
-      nil : (x : List ℕ) → length x ≡ 0 → x ≡ []
-      nil [] q = refl
-      nil (y ∷ ys) q = absurd (omega arith)
-
-  -- some data bytes lie in the window
-  pub in-window : (length (d .ds) ≡ 0 → ⊥) → (base ≤ d .a) × (d .a + length (d .ds) ≤ base + length m)
-  in-window z =
-      let e : length (d .ds) ≡ suc (length (d .ds) - 1) = omega arith in
-      let k : (base ≤ d .a) × (d .a + suc (length (d .ds) - 1) ≤ base + length m)
-      = inside base (length m) (d .a) (length (d .ds) - 1) (ap (row12 base (length m) (d .a)) (sym e) ∙ d .twelve) in
-      (k .0, omega (arith, k .1))
-
-  -- a part of memory that was lent for them, with the address and the number of bytes as the code has them
-  pub part-stored : (address n : ℕ) (part : List ℕ) → address ≡ d .a → n ≡ length (d .ds)
-      → length (take (address - base + n - (address - base)) (drop (address - base) m)) ≡ length (d .ds)
-      → part ≡ bytes (take (2 * length (take (address - base + n - (address - base)) (drop (address - base) m))) (drop (4 + 2 * w) chars))
-      → putMid (address - base) (address - base + n - (address - base)) m part ≡ storedBy base m (carried (read chars))
-  part-stored address n part e l k q =
-      let p : part ≡ d .ds = q ∙ ap (λ (j : ℕ). bytes (take (2 * j) (drop (4 + 2 * w) chars))) k ∙ sym (d .fields .data-is) in
-      lent-over (address - base) (address - base + n - (address - base)) m part (add-sub-cancel-left (address - base) n ∙ l ∙ ap length (sym p))
-      ∙ ap₂ (λ (i : ℕ) (x : List ℕ). over m (i - base) x) e p ∙ rw (d .is) refl
+-- so it has data for cells
+abbrev pub data-line : {chars : List ℕ} {base size w : ℕ} → DataRecord chars base size w → DataLine chars base size (4 + 2 * w) (carried (read chars))
+data-line d = record { a = d .a; ds = d .ds; is = ap carried (d .is); data-is = d .fields .data-is; twelve = d .twelve }

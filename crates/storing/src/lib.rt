@@ -1,4 +1,5 @@
 // The storing pass of a load, over a text that was checked: the data into memory, and the header.
+use formats::Format;
 use srec_read::Record;
 use text::Found;
 use window::Header;
@@ -15,21 +16,25 @@ ghost use Rattle.text.specs.Finds.{firstHeader};
 ghost use Rattle.text.specs.Formats.{plan};
 ghost use Rattle.text.specs.Load.{headerOf, memoryAfter};
 ghost use Rattle.text.specs.Terms.{headerIn};
-ghost use Rattle.srec.specs.Lines.{isEnd};
 ghost use Rattle.srec.specs.Reading.{read};
 ghost use Rattle.srec.specs.Judging.{carried};
+ghost use Rattle.srec.specs.Lines.{isEnd};
 ghost use Rattle.srec.specs.Formats.{srec};
+ghost use Rattle.tape.specs.Formats.{tape};
+ghost use Rattle.formats.specs.Choices.{formatOf};
 ghost use Rattle.storing.specs.Stores.{storedBy, Placeable, Accepts};
 
-// Stores the data bytes of a record that was read, which stand behind its address, into the part that is lent for them.
-fn store_record(table: &[u32; 256], part: &mut [u8], chars: &[u8], width: usize)
-    requires { ⌜ (now table ≡ digitTable) × (width ≤ 4) × (4 + 2 * width + 2 * length (now part) ≤ length (now chars)) ⌝ }
-    requires { ⌜ length (drop 2 (now chars)) ≤ firstBad (drop 2 (now chars)) ⌝ }
-    ensures { λ _. ⌜ now (part .exit) ≡ bytes (take (2 * length (now (part .entry))) (drop (4 + 2 * width) (now (chars .entry)))) ⌝ }
+// Where the data of a tape's line stands: behind ; and the pairs of its length and address.
+const LINE_DATA: usize = 7;
+
+// Stores the data bytes of a line that was read, whose digits begin at `start`, into the part that is lent for them.
+fn store_data(table: &[u32; 256], part: &mut [u8], chars: &[u8], start: usize)
+    requires { ⌜ (now table ≡ digitTable) × (start + 2 * length (now part) ≤ length (now chars)) ⌝ }
+    requires { ⌜ length (take (2 * length (now part)) (drop start (now chars))) ≤ firstBad (take (2 * length (now part)) (drop start (now chars))) ⌝ }
+    ensures { λ _. ⌜ now (part .exit) ≡ bytes (take (2 * length (now (part .entry))) (drop start (now (chars .entry)))) ⌝ }
 {
-    let data = 4 + 2 * width;
-    let end = data + 2 * part.len();
-    hex_store::store_digits(table, part, &chars[data..end]);
+    let end = start + 2 * part.len();
+    hex_store::store_digits(table, part, &chars[start..end]);
 }
 
 // Stores the data of a record that was checked into the middle of memory, at its address less the base.
@@ -54,21 +59,48 @@ fn place_record(table: &[u32; 256], base: usize, memory: &mut [u8], chars: &[u8]
     let address = hex::number_of(table, &chars[4..end]) as usize;
     let from = address - base;
     let to = from + count;
-    store_record(table, &mut memory[from..to], chars, width);
+    store_data(table, &mut memory[from..to], chars, end);
 }
 
-// Stores the data of every record of a text that was accepted.
-pub fn store_all(table: &[u32; 256], text: &[u8], base: usize, memory: &mut [u8])
-    requires { ⌜ (now table ≡ digitTable) × Accepts (placed base (blank (length (now memory))) (plan srec (now text))) ⌝ }
-    ensures { λ _. ⌜ now (memory .exit) ≡ memoryAfter (now (memory .entry)) (placed base (blank (length (now (memory .entry)))) (plan srec (now (text .entry)))) ⌝ }
+// The same for a line of a tape.
+fn place_line(table: &[u32; 256], base: usize, memory: &mut [u8], chars: &[u8])
+    requires { ⌜ (now table ≡ digitTable) × Placeable base (length (now memory)) (tape .part (now chars)) ⌝ }
+    ensures { λ _. ⌜ now (memory .exit) ≡ storedBy base (now (memory .entry)) (tape .part (now (chars .entry))) ⌝ }
+{
+    let count = hex::byte_of(table, chars[1], chars[2]) as usize;
+    // the last line has a number where the others have an address
+    if count == 0 {
+        return;
+    }
+    let address = hex::number_of(table, &chars[3..LINE_DATA]) as usize;
+    let from = address - base;
+    let to = from + count;
+    store_data(table, &mut memory[from..to], chars, LINE_DATA);
+}
+
+// The same in the format that is told.
+fn place(format: Format, table: &[u32; 256], base: usize, memory: &mut [u8], chars: &[u8])
+    requires { ⌜ (now table ≡ digitTable) × Placeable base (length (now memory)) (formatOf format .part (now chars)) ⌝ }
+    ensures { λ _. ⌜ now (memory .exit) ≡ storedBy base (now (memory .entry)) (formatOf format .part (now (chars .entry))) ⌝ }
+{
+    match format {
+        Format::Records => place_record(table, base, memory, chars),
+        Format::Tape => place_line(table, base, memory, chars),
+    }
+}
+
+// Stores the data of every line of a text that was accepted.
+pub fn store_all(format: Format, table: &[u32; 256], text: &[u8], base: usize, memory: &mut [u8])
+    requires { ⌜ (now table ≡ digitTable) × Accepts (placed base (blank (length (now memory))) (plan (formatOf format) (now text))) ⌝ }
+    ensures { λ _. ⌜ now (memory .exit) ≡ memoryAfter (now (memory .entry)) (placed base (blank (length (now (memory .entry)))) (plan (formatOf format) (now (text .entry)))) ⌝ }
 {
     let mut at: usize = 0;
     loop {
-        let found = srec_lines::next_counted(table, text, at);
+        let found = lines::next_counted(format, table, text, at);
         let Found::At { from, to } = found else {
             return;
         };
-        place_record(table, base, memory, &text[from..to]);
+        place(format, table, base, memory, &text[from..to]);
         at = to;
     }
 }
@@ -96,18 +128,29 @@ fn header_in(table: &[u32; 256], chars: &[u8]) -> Header
         return no_header();
     }
     let mut bytes = [0u8; 252];
-    store_record(table, &mut bytes[..count], chars, 2);
+    store_data(table, &mut bytes[..count], chars, 8);
     Header { len: count, bytes }
 }
 
-// The header of a text: that of its first record.
-pub fn header_of(table: &[u32; 256], text: &[u8]) -> Header
+// The header of a text of records: that of its first one.
+fn first_header(table: &[u32; 256], text: &[u8]) -> Header
     requires { ⌜ now table ≡ digitTable ⌝ }
     ensures { λ r. ⌜ r ≡ headerOf (firstHeader (srec .part) (lines isEnd 0 (now (text .entry)))) ⌝ }
 {
-    let found = srec_lines::next_record(text, 0);
+    let found = lines::next_line(Format::Records, text, 0);
     let Found::At { from, to } = found else {
         return no_header();
     };
     header_in(table, &text[from..to])
+}
+
+// The header of a text that was accepted: a tape has none.
+pub fn header_of(format: Format, table: &[u32; 256], text: &[u8]) -> Header
+    requires { ⌜ now table ≡ digitTable ⌝ }
+    ensures { λ r. ⌜ r ≡ headerOf (firstHeader (formatOf format .part) (lines (formatOf format .gap) 0 (now (text .entry)))) ⌝ }
+{
+    match format {
+        Format::Records => first_header(table, text),
+        Format::Tape => no_header(),
+    }
 }

@@ -2,10 +2,12 @@
 use mathlib.Core.Path.{_≡_, refl}
 use Prim.Native.Nat.{ℕ, suc, _+_, _/_, _%_, _<_}
 use native.Mathlib.Nat.{add-zero, add-suc, suc-add, not-suc-le-zero}
+use native.Mathlib.Omega.{arith}
 use mathlib.Core.Bool.{Bool, true, false}
 use mathlib.Core.List.{List, [], _∷_, _++_}
 use lib.ListN.{length}
 use Rattle.hex.specs.Digits.{digit, digitsOf}
+use Rattle.lists.proofs.TestLaws.{by-test}
 use Rattle.lists.proofs.ByteLaws.{Bytes}
 use Rattle.hex.proofs.DigitLaws.{high-small, low-small}
 use Rattle.text.specs.Lines.{front, push, behind, lines}
@@ -15,6 +17,22 @@ module _ (gap : ℕ → Bool) where
   abbrev pub Free : List ℕ → Type 0
   Free [] = Unit {0}
   Free (c ∷ cs) = (gap c ≡ false) × Free cs
+
+  -- characters that are all before the first separator have none
+  pub front-all : (cs : List ℕ) → front gap cs ≡ cs → Free cs
+  front-all [] e = tt
+  front-all (c ∷ cs) e = by-test (gap c) (λ t. absurd (none (rw t at e))) (λ t. (t, front-all cs (tail (rw t at e))))
+    where
+      none : [] ≡ c ∷ cs → ⊥
+      none q = let z : _≡_ {A = ℕ} 0 1 = cc in omega arith
+
+      tail : c ∷ front gap cs ≡ c ∷ cs → front gap cs ≡ cs
+      tail q = cc
+
+  -- and those without one are all before it
+  pub all-front : (cs : List ℕ) → Free cs → front gap cs ≡ cs
+  all-front [] h = refl
+  all-front (c ∷ cs) h = rw (h .0, all-front cs (h .1))
 
   -- characters without a separator, up to the first separator, are the stretch that a text begins with
   front-free : (x : ℕ) (xs rest : List ℕ) → gap x ≡ true → Free xs → front gap (xs ++ (x ∷ rest)) ≡ xs

@@ -29,6 +29,12 @@ pub enum Step {
     Finish(State, Entry),
 }
 
+// The step of a line, or no answer: what a fast way gives that may only say yes.
+pub enum Sure {
+    Yes(Step),
+    No,
+}
+
 // The next line of a text: where it stands, and what it does; or there is none.
 pub enum Taken {
     Line { from: usize, to: usize, step: Step },

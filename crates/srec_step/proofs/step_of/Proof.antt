@@ -31,7 +31,13 @@ judge-requires : tie.Need-judge-requires
 judge-requires c κs =
     let g = got-at (c .before) in
     let s = call (c .before .before .before) in
-    (ap isKnown (g .known-is), s .pre .1 .0, s .pre .1 .1, omega (arith, s .pre .1 .2, g .fields .long, g .len), omega (arith, g .small .1))
+    let long = g .fields .long in (
+      ap isKnown (g .known-is),
+      omega (arith, s .pre .1 .0, long),
+      omega (arith, s .pre .1 .1, long),
+      omega (arith, s .pre .1 .2, long, g .len),
+      omega (arith, g .small .1),
+    )
 
 returns-2 : tie.Need-returns-2
 returns-2 c =

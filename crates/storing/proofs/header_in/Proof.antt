@@ -1,8 +1,11 @@
 -- `header_in` meets its contract: no S0 has no header, and an S0 its data bytes.
-use mathlib.Core.Path.{sym, _∙_}
+use mathlib.Core.Path.{refl, sym, _∙_}
+use Prim.Native.Nat.{_*_}
 use native.Mathlib.Omega.{arith}
+use lib.ListN.{length, take}
 use lib.Seq.{length-take-le}
 use Rattle.srec_read.proofs.FieldLaws.{Got, got}
+use Rattle.storing.proofs.DataLaws.{digits-from}
 use Rattle.storing.proofs.HeaderLaws.{zeros, header-bad, header-other, header-s0}
 use borrow.Author.Needs.{needs}
 use Rattle.storing.proofs.header_in.Statement.{statement}
@@ -22,25 +25,25 @@ returns-2 c = c .no-header2 .ensures ∙ header-other _ _ _ _ (got-at (c .before
 array-borrow-prefix-bytes : tie.Need-array-borrow-prefix-bytes
 array-borrow-prefix-bytes c = let r = got-at (c .before .before) in omega (arith, r .small .1)
 
-slice-aggregate-store-record : tie.Need-slice-aggregate-store-record
-slice-aggregate-store-record c = let r = got-at (c .before .before .before) in sym (length-take-le _ zeros (r .small .1))
+slice-aggregate-store-data : tie.Need-slice-aggregate-store-data
+slice-aggregate-store-data c = let r = got-at (c .before .before .before) in sym (length-take-le _ zeros (r .small .1))
 
-store-record-requires : tie.Need-store-record-requires
-store-record-requires c κs =
+store-data-requires : tie.Need-store-data-requires
+store-data-requires c κs =
     let at-answer = c .before .before .before in
     let r = got-at at-answer in (
       (
         at-answer .before .before .before .before .pre,
-        search needs,
         omega (arith, r .fields .long, r .small .2, r .len, length-take-le _ zeros (r .small .1)),
       ),
-      r .fields .digits,
+      digits-from (at-answer .before .before .before .before .args .chars .now) 2 6 8
+          (2 * length (take (at-answer .answer .given .0 .1 .1 .0) zeros)) refl (r .fields .digits),
     )
 
 returns-3 : tie.Need-returns-3
 returns-3 c =
     let at-if1 = c .before .before .before in
-    header-s0 _ _ _ _ (got-at (at-if1 .before .before)) (at-if1 .if1 .left) _ (c .before .store-record .ensures)
+    header-s0 _ _ _ _ (got-at (at-if1 .before .before)) (at-if1 .if1 .left) _ (c .before .store-data .ensures)
 
 pub header-in-spec : {M : Type 1} → statement M
 header-in-spec =
@@ -54,6 +57,6 @@ header-in-spec =
     (λ c κs. search needs)
     returns-2
     array-borrow-prefix-bytes
-    slice-aggregate-store-record
-    store-record-requires
+    slice-aggregate-store-data
+    store-data-requires
     returns-3)

@@ -1,12 +1,14 @@
 -- `place_record` meets its contract: a record without data stores nothing, and another stores its data at its address less the base.
 use mathlib.Core.Path.{_≡_, sym, _∙_, subst}
-use Prim.Native.Nat.{ℕ, _+_, _-_, _≤_}
+use Prim.Native.Nat.{ℕ, _+_, _-_, _*_, _≤_}
 use native.Mathlib.Nat.{add-sub-cancel-left}
 use native.Mathlib.Omega.{arith}
+use mathlib.Core.List.{List}
 use mathlib.Core.Logic.{inl, inr}
 use lib.ListN.{length, take, drop}
 use Rattle.lists.proofs.PartLaws.{lent-length}
-use Rattle.storing.proofs.StoreLaws.{readable, no-data, DataRecord, data-record, none-stored, in-window, part-stored}
+use Rattle.storing.proofs.DataLaws.{digits-from, none-stored, in-window, part-stored}
+use Rattle.storing.proofs.StoreLaws.{readable, no-data, DataRecord, data-record, data-line}
 use borrow.Author.Needs.{needs}
 use Rattle.storing.proofs.place_record.Statement.{statement}
 use Rattle.storing.proofs.place_record.Tie as tie
@@ -46,7 +48,7 @@ window-at : (c : tie.Else3) → let d = data-at (typed (c .before)) in let a = o
     (a .base ≤ d .a) × (d .a + length (d .ds) ≤ a .base + length (a .memory .now))
 window-at c =
     let at-width-of = typed (c .before) in
-    in-window (own at-width-of .args .memory .now) _ _ _ (data-at at-width-of) (λ z. c .if3 .left (count-at (c .before) ∙ z))
+    in-window (own at-width-of .args .memory .now) _ _ _ (data-line (data-at at-width-of)) (λ z. c .if3 .left (count-at (c .before) ∙ z))
 
 shared-slice-read-kind : tie.Need-shared-slice-read-kind
 shared-slice-read-kind c = omega (arith, readable _ _ _ (c .before .before .before .pre .1) .fields .long)
@@ -70,7 +72,7 @@ sub-count c = omega (arith, c .byte-of .ensures ∙ data-at (c .before .before .
 returns-3 : tie.Need-returns-3
 returns-3 c =
     let at-width-of = typed (c .before) in
-    none-stored (own at-width-of .args .memory .now) _ _ _ (data-at at-width-of) (sym (count-at (c .before)) ∙ c .if3 .taken)
+    none-stored (own at-width-of .args .memory .now) _ _ _ (data-line (data-at at-width-of)) (sym (count-at (c .before)) ∙ c .if3 .taken)
 
 part-number-of-end : tie.Need-part-number-of-end
 part-number-of-end c = omega (arith, data-at (c .before .before .before .before) .fields .long)
@@ -78,30 +80,37 @@ part-number-of-end c = omega (arith, data-at (c .before .before .before .before)
 sub-from : tie.Need-sub-from
 sub-from c = omega (arith, address-at c, window-at (c .before .before) .0)
 
-part-store-record-end : tie.Need-part-store-record-end
-part-store-record-end c = omega (arith, address-at c, count-at (c .before .before .before), window-at (c .before .before))
+part-store-data-end : tie.Need-part-store-data-end
+part-store-data-end c = omega (arith, address-at c, count-at (c .before .before .before), window-at (c .before .before))
 
 -- the part of memory that is lent has a byte for each data byte
-lent-at : (c : tie.After-number-of) → length (take (from c + n c - from c) (drop (from c) (call c .args .memory .now))) ≡ length
-    (data-at (c .before .before .before .before .before .before) .ds)
+abbrev lent : tie.After-number-of → List ℕ
+lent c = take (from c + n c - from c) (drop (from c) (call c .args .memory .now))
+
+lent-at : (c : tie.After-number-of) → length (lent c) ≡ length (data-at (c .before .before .before .before .before .before) .ds)
 lent-at c =
     lent-length _ (from c) (n c) (omega (arith, address-at c, count-at (c .before .before .before), window-at (c .before .before)))
     ∙ count-at (c .before .before .before)
 
-store-record-requires : tie.Need-store-record-requires
-store-record-requires c κs =
+store-data-requires : tie.Need-store-data-requires
+store-data-requires c κs =
     let at-number-of = c .before in
-    let own = data-at (at-number-of .before .before .before .before .before .before) in
-    ((search needs, own .high, omega (arith, own .fields .long, lent-at at-number-of)), own .fields .digits)
+    let at-width-of = at-number-of .before .before .before .before .before .before in
+    let own = data-at at-width-of in
+    let w = at-width-of .width-of .result in (
+      (search needs, omega (arith, own .fields .long, lent-at at-number-of)),
+      digits-from (call at-number-of .args .chars .now) 2 (2 + 2 * w) (4 + 2 * w) (2 * length (lent at-number-of)) (omega arith)
+          (own .fields .digits),
+    )
 
 returns-4 : tie.Need-returns-4
 returns-4 c =
-    let at-store-record = c .before .before in
-    let at-number-of = at-store-record .before .before in
+    let at-store-data = c .before .before in
+    let at-number-of = at-store-data .before .before in
     let at-byte-of = at-number-of .before .before .before in
-    part-stored (call at-number-of .args .memory .now) _ _ _ (data-at (at-byte-of .before .before .before)) _ _ _ (address-at at-number-of)
+    part-stored (call at-number-of .args .memory .now) _ _ _ (data-line (data-at (at-byte-of .before .before .before))) _ _ _ (address-at at-number-of)
     (count-at at-byte-of)
-    (lent-at at-number-of) (at-store-record .store-record .ensures)
+    (lent-at at-number-of) (at-store-data .store-data .ensures)
 
 pub place-record-spec : {M : Type 1} → statement M
 place-record-spec =
@@ -129,7 +138,7 @@ place-record-spec =
     (λ c. search needs)
     (λ c. search needs)
     (λ c. search needs)
-    part-store-record-end
-    store-record-requires
+    part-store-data-end
+    store-data-requires
     (λ c. search needs)
     returns-4)

@@ -1,0 +1,116 @@
+-- `load_as` meets its contract: row 1, then a refusal of the check, or what the storing pass leaves.
+use mathlib.Core.Path.{sym, ap, _∙_}
+use borrow.Author.Tests.{not-true, not-false}
+use Rattle.window.specs.Plans.Outcome.{refused}
+use Rattle.load.proofs.LoaderLaws.{answered-refused, row-1, cleared-is, accepts, checked-refused, checked-accepted}
+use borrow.Author.Needs.{needs}
+use Rattle.load.proofs.load_as.Statement.{statement}
+use Rattle.load.proofs.load_as.Tie as tie
+
+-- places: row 1 was decided, and the marks were cleared
+module _ (k : tie.After-slice-known3) where
+  abbrev cleared : tie.After-clear
+  cleared = k .before .before
+
+  abbrev decided : tie.After-is-allowed
+  decided = cleared .before .before
+
+  abbrev call : tie.Start
+  call = decided .before .before .before .before .before .before
+
+-- the text was checked
+abbrev allowed : tie.After-check → tie.Else1
+allowed c = c .before .before .before .before
+
+abbrev refusing : tie.After-refused-answer2 → tie.After-checked
+refusing c = c .before .before
+
+abbrev accepting : tie.After-store-all-arg → tie.After-checked2
+accepting c = c .before .before .before
+
+returns : tie.Need-returns
+returns c =
+    let k = c .before .before .before in
+    let a = call k .args in
+    answered-refused (a .memory .now) (a .marks .now) _ _
+    (row-1 (a .format) (a .base) (a .memory .now) (a .marks .now) (a .text .now) (decided k .is-allowed .ensures) (not-true _ (c .before .before .if1 .taken))
+    ∙ ap refused (sym (c .before .refuse .ensures))) _ (c .refused-answer .ensures) _ (cleared k .clear .ensures)
+
+check-requires : tie.Need-check-requires
+check-requires c κs =
+    let at-table = c .before .before in
+    let k = at-table .before .before in
+    let a = call k .args in (
+      at-table .digit-table .ensures,
+      cleared-is (a .format) (a .base) (a .memory .now) (a .marks .now) (a .text .now) (decided k .is-allowed .ensures)
+          (not-false _ (at-table .before .if1 .left)) _ (cleared k .clear .ensures),
+    )
+
+returns-2 : tie.Need-returns-2
+returns-2 c =
+    let at-checked = refusing c in
+    let at-check = at-checked .before .before .before .before in
+    let k = allowed at-check .before in
+    let a = call k .args in
+    checked-refused (a .format) (a .base) (a .memory .now) (a .marks .now) (a .text .now) (decided k .is-allowed .ensures)
+    (not-false _ (allowed at-check .if1 .left)) _ (cleared k .clear .ensures)
+    _ _ _ (sym (at-checked .checked .given .1) ∙ at-check .check .ensures .0) (c .refused-answer2 .ensures) (at-check .check .ensures .1)
+
+store-all-requires : tie.Need-store-all-requires
+store-all-requires c κs =
+    let at-checked = accepting c in
+    let at-check = at-checked .before .before .before .before in
+    let k = allowed at-check .before in
+    let a = call k .args in (
+      at-check .before .before .before .digit-table .ensures,
+      accepts (a .format) (a .base) (a .memory .now) (a .marks .now) (a .text .now) (decided k .is-allowed .ensures)
+          (not-false _ (allowed at-check .if1 .left)) _ (cleared k .clear .ensures)
+          _ _ _ (sym (at-checked .checked2 .given .1) ∙ at-check .check .ensures .0),
+    )
+
+-- the storing pass, behind the check
+abbrev stored : tie.After-accepted-answer → tie.After-store-all
+stored c = c .before .before .before .before .before
+
+same-length-6 : tie.Need-same-length-6
+same-length-6 c =
+    let at-check = accepting (stored c .before) .before .before .before .before in
+    at-check .check .kept .1 .1 .1 .1 .1 .0 ∙ cleared (allowed at-check .before) .clear .kept .0
+
+returns-3 : tie.Need-returns-3
+returns-3 c =
+    let at-checked = accepting (stored c .before) in
+    let at-check = at-checked .before .before .before .before in
+    let k = allowed at-check .before in
+    let a = call k .args in
+    rw (c .accepted-answer .ensures)
+    (checked-accepted (a .format) (a .base) (a .memory .now) (a .marks .now) (a .text .now) (decided k .is-allowed .ensures)
+    (not-false _ (allowed at-check .if1 .left)) _ (cleared k .clear .ensures)
+    _ _ _ _ _ _ (sym (at-checked .checked2 .given .1) ∙ at-check .check .ensures .0) (at-check .check .ensures .1)
+    (stored c .store-all .ensures) (c .before .header-of .ensures))
+
+pub load-as-spec : {M : Type 1} → statement M
+load-as-spec =
+    tie.close
+    (tie.spec
+    (λ c κs. search needs)
+    (λ c κs. search needs)
+    (λ c κs. search needs)
+    (λ c κs. search needs)
+    (λ c. search needs)
+    (λ c. search needs)
+    returns
+    (λ c κs. search needs)
+    check-requires
+    (λ c. search needs)
+    (λ c κs. search needs)
+    (λ c. search needs)
+    (λ c. search needs)
+    returns-2
+    (λ c. search needs)
+    store-all-requires
+    (λ c κs. search needs)
+    (λ c κs. search needs)
+    (λ c. search needs)
+    same-length-6
+    returns-3)

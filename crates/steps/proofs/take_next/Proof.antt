@@ -1,0 +1,70 @@
+-- `take_next` meets its contract: a good line that ends where its count says is the next one.
+use mathlib.Core.Path.{_≡_, ap, _∙_}
+use Prim.Native.Nat.{ℕ, _+_, _^_}
+use native.Mathlib.Omega.{arith}
+use Rattle.lists.proofs.PartLaws.{rest}
+use Rattle.text.specs.Finds.{leading}
+use Rattle.text.proofs.FindLaws.{from}
+use Rattle.text.proofs.StepLaws.{taken-line}
+use Rattle.formats.specs.Choices.{formatOf}
+use Rattle.steps.proofs.SureLaws.{room, sure-next}
+use borrow.Author.Needs.{needs}
+use Rattle.steps.proofs.take_next.Statement.{statement}
+use Rattle.steps.proofs.take_next.Tie as tie
+
+-- places: the call, where the line's end was counted
+abbrev call : tie.After-counted-end → tie.Start
+call c = c .before .before .before .before
+
+-- where the line at hand begins and ends
+abbrev first : tie.After-counted-end → ℕ
+first c = call c .args .at + c .before .count-gaps .result
+
+abbrev last : tie.After-counted-end → ℕ
+last c = c .counted-end .result
+
+-- it begins where the next line does
+begins : (c : tie.After-counted-end) → let a = call c .args in first c ≡ from (formatOf (a .format) .gap) (a .text .now) (a .at)
+begins c =
+    let a = call c .args in
+    ap (λ (k : ℕ). a .at + k) (c .before .count-gaps .ensures .0 ∙ ap (leading (formatOf (a .format) .gap)) (rest (a .at) (a .text .now)))
+
+good-step-requires : tie.Need-good-step-requires
+good-step-requires c κs =
+    let j = c .before in
+    let s = call j in
+    let e = j .counted-end .ensures in
+    let r = room (s .args .state) (s .args .text .now) (s .args .at) (first j) (last j) (omega arith) (e .0) (e .1)
+    (s .pre .2, s .pre .3, s .pre .4) (2 ^ 64) (omega arith) in
+    ((s .pre .0, r .0), r .1)
+
+returns-2 : tie.Need-returns-2
+returns-2 c =
+    let at-good-step = c .before .before .before in
+    let j = at-good-step .before .before in
+    let s = call j in
+    let a = s .args in
+    let e = j .counted-end .ensures in
+    let y = sure-next (formatOf (a .format)) (a .state) (a .text .now) (a .at) (first j) (last j) (s .pre .1) (begins j) (e .0) (e .1) (e .2)
+    _ _ (c .before .answer .given .1) (at-good-step .good-step .ensures) in
+    taken-line (formatOf (a .format)) (a .state) (a .text .now) (a .at) (first j) (last j) (y .0) _ (y .1)
+
+pub take-next-spec : {M : Type 1} → statement M
+take-next-spec =
+    tie.close
+    (tie.spec
+    (λ c. search needs)
+    (λ c. search needs)
+    (λ c. search needs)
+    (λ c κs. search needs)
+    (λ c. search needs)
+    (λ c κs. search needs)
+    (λ c. search needs)
+    (λ c. search needs)
+    (λ c. search needs)
+    good-step-requires
+    (λ c. search needs)
+    (λ c. search needs)
+    (λ c κs. search needs)
+    (λ c. search needs)
+    returns-2)

@@ -1,0 +1,4 @@
+pub mod LineFieldLaws
+pub mod LineReadLaws
+pub mod LineStepLaws
+pub mod LineGapLaws
