@@ -59,9 +59,13 @@ def failures(command, places):
     return found
 
 
-def cargo(tests, test):
+def cargo(tests, test, *arguments):
     package = str(tests / "compare" / "Cargo.toml")
-    return ["cargo", "test", "--release", "--offline", "--quiet", "--manifest-path", package, "--test", test, "--", SEED, CASES]
+    return ["cargo", "test", "--release", "--offline", "--quiet", "--manifest-path", package, "--test", test, *arguments]
+
+
+def drawn(tests, test):
+    return cargo(tests, test, "--", SEED, CASES)
 
 
 def library(edit, folder):
@@ -73,7 +77,7 @@ def library(edit, folder):
     command = "rustc --edition 2021 -O -A warnings --crate-name capi --crate-type staticlib face.rs -o libcapi.a"
     subprocess.run(command.split(), cwd=folder, check=True)
     places = {"SREC_LIB_DIR": str(folder), "SREC_INCLUDE_DIR": str(folder)}
-    for name, command in (("compare", cargo(TESTS, "compare")), ("c", ["sh", str(TESTS / "c" / "run.sh")])):
+    for name, command in (("compare", drawn(TESTS, "compare")), ("c", ["sh", str(TESTS / "c" / "run.sh")])):
         found = failures(command, places)
         if found:
             return f"{name}: " + "; ".join(found)
@@ -86,8 +90,10 @@ def answers(edit, folder):
         shutil.copytree(TESTS / name, folder / name, ignore=shutil.ignore_patterns("target"))
     if edit:
         apply(edit, folder / "second" / "src")
-    places = {"VECTORS": str(TARGET / "bin" / "vectors"), "SREC_LIB_DIR": str(TARGET / "staticlib")}
-    return "answers" if failures(cargo(folder, "answers"), places) else None
+    places = {"VECTORS": str(TARGET / "bin" / "vectors"), "SREC_LIB_DIR": str(TARGET / "staticlib"), "RUSTFLAGS": "-A warnings"}
+    # an edit that does not compile is not one that is noticed
+    subprocess.run(cargo(folder, "answers", "--no-run"), env={**os.environ, **places}, stderr=subprocess.DEVNULL, check=True)
+    return "answers" if failures(drawn(folder, "answers"), places) else None
 
 
 def try_edit(kind, edit):

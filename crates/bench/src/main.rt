@@ -1,5 +1,6 @@
 // The bench program: S-record text on standard input, its canonical text on standard output, for a window of 8,192 cells from address 0.
 use convert::Converted;
+use formats::Format;
 use libc::STDIN_FILENO;
 use libc::STDOUT_FILENO;
 use window::Refusal;
@@ -42,7 +43,14 @@ fn main() {
     let mut memory = [0u8; CELLS];
     let mut marks = [0u8; CELLS];
     let mut out = [0u8; ROOM];
-    let converted = convert::convert(0, &text[..n], &mut memory, &mut marks, &mut out);
+    let converted = convert::convert(
+        Format::Records,
+        0,
+        &text[..n],
+        &mut memory,
+        &mut marks,
+        &mut out,
+    );
     match converted {
         Converted::Refused(refusal) => {
             print_refusal(refusal);

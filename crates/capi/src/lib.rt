@@ -1,13 +1,15 @@
-// The C face: two thin functions over the library. include/srec.h declares them.
+// The C face: four thin functions over the library. include/srec.h declares them.
 use window::Entry;
 ghost use mathlib.Core.Path.{_≡_};
+ghost use mathlib.Core.List.{[]};
 ghost use lib.ListN.{length};
-ghost use Rattle.window.specs.declared.Entry.the-variants.{Present};
+ghost use Rattle.window.specs.declared.Entry.the-variants.{Absent, Present};
 ghost use Rattle.window.specs.Windows.{windowOf};
 ghost use Rattle.text.specs.Formats.{plan};
 ghost use Rattle.text.specs.Load.{load, loadAnswer, memoryAfter, marksAfter};
 ghost use Rattle.text.specs.Write.{write, writeAnswer, outputAfter};
 ghost use Rattle.srec.specs.Formats.{srec};
+ghost use Rattle.tape.specs.Formats.{tape};
 
 // Loads a text into a window: the refusal's number, 0 for accepted.
 #[no_mangle]
@@ -35,5 +37,28 @@ pub extern "C" fn srec_write(
     ensures output { λ _. ⌜ now (out .exit) ≡ outputAfter (now (out .entry)) (write srec (windowOf base (now (memory .entry)) (now (marks .entry))) (now (header .entry)) (Present entry) (length (now (out .entry)))) ⌝ }
 {
     let written = srec_write::write(base, memory, marks, header, Entry::Present(entry), out);
+    written.length
+}
+
+// Loads a paper tape into a window: the refusal's number, 0 for accepted.
+#[no_mangle]
+pub extern "C" fn srec_load_tape(text: &[u8], base: u32, memory: &mut [u8], marks: &mut [u8]) -> u32
+    ensures answer { λ r. ⌜ r ≡ loadAnswer (load (windowOf base (now (memory .entry)) (now (marks .entry))) (plan tape (now (text .entry)))) .refusal .reason ⌝ }
+    ensures memory { λ _. ⌜ now (memory .exit) ≡ memoryAfter (now (memory .entry)) (load (windowOf base (now (memory .entry)) (now (marks .entry))) (plan tape (now (text .entry)))) ⌝ }
+    ensures marks { λ _. ⌜ now (marks .exit) ≡ marksAfter (now (marks .entry)) (load (windowOf base (now (memory .entry)) (now (marks .entry))) (plan tape (now (text .entry)))) ⌝ }
+{
+    let loaded = load::load_tape(text, base, memory, marks);
+    let refusal = loaded.refusal;
+    refusal.reason
+}
+
+// Writes the canonical tape of a window, without a header and an entry: its length, 0 for a refusal.
+#[no_mangle]
+pub extern "C" fn srec_write_tape(base: u32, memory: &[u8], marks: &[u8], out: &mut [u8]) -> usize
+    ensures answer { λ r. ⌜ r ≡ writeAnswer (write tape (windowOf base (now (memory .entry)) (now (marks .entry))) [] Absent (length (now (out .entry)))) .length ⌝ }
+    ensures output { λ _. ⌜ now (out .exit) ≡ outputAfter (now (out .entry)) (write tape (windowOf base (now (memory .entry)) (now (marks .entry))) [] Absent (length (now (out .entry)))) ⌝ }
+{
+    let none = [0u8; 0];
+    let written = tape_write::write(base, memory, marks, &none, Entry::Absent, out);
     written.length
 }

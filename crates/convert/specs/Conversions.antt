@@ -9,8 +9,7 @@ use Rattle.text.specs.Load.{load}
 use Rattle.text.specs.Write.{WriteOutcome, outputAfter}
 use Rattle.text.specs.Write.WriteOutcome.{declined, wrote}
 use Rattle.text.specs.Terms.{writtenAfter}
-use Rattle.text.specs.Formats.{plan}
-use Rattle.srec.specs.Formats.{srec}
+use Rattle.text.specs.Formats.{Format, plan}
 use Rattle.convert.specs.declared.Converted.{Converted}
 use Rattle.convert.specs.declared.Converted.the-variants.{Refused, Text}
 
@@ -25,10 +24,10 @@ abbrev pub outputBy : List ℕ → Outcome → WriteOutcome → List ℕ
 outputBy out (refused f) w = out
 outputBy out (accepted s img) w = outputAfter out w
 
--- for a window and a text, with room for so many characters
-abbrev pub converted : Window → List ℕ → ℕ → Converted
-converted W text room = convertedBy (load W (plan srec text)) (writtenAfter srec W text room)
+-- for a window and a text of a format, with room for so many characters
+abbrev pub converted : Format → Window → List ℕ → ℕ → Converted
+converted F W text room = convertedBy (load W (plan F text)) (writtenAfter F W text room)
 
 -- the output after that
-abbrev pub outputOf : List ℕ → Window → List ℕ → List ℕ
-outputOf out W text = outputBy out (load W (plan srec text)) (writtenAfter srec W text (length out))
+abbrev pub outputOf : Format → List ℕ → Window → List ℕ → List ℕ
+outputOf F out W text = outputBy out (load W (plan F text)) (writtenAfter F W text (length out))

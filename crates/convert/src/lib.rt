@@ -1,11 +1,15 @@
-// A text to its canonical text: a load, and a write of what it left.
+// A text to its canonical text: a load, and a write of what it left, both in the format that is told.
+use formats::Format;
+use window::Entry;
 use window::Refusal;
+use window::Written;
 ghost use mathlib.Core.Path.{_≡_};
 ghost use lib.ListN.{length};
 ghost use Rattle.window.specs.Windows.{windowOf};
 ghost use Rattle.text.specs.Formats.{plan};
 ghost use Rattle.text.specs.Load.{load, memoryAfter, marksAfter};
-ghost use Rattle.srec.specs.Formats.{srec};
+ghost use Rattle.text.specs.Write.{write, writeAnswer, outputAfter};
+ghost use Rattle.formats.specs.Choices.{formatOf};
 ghost use Rattle.convert.specs.Conversions.{converted, outputOf};
 
 // The refusal of the load or of the write, or the length of the canonical text.
@@ -14,20 +18,40 @@ pub enum Converted {
     Text(usize),
 }
 
+// Writes the canonical text of a window.
+fn write_as(
+    format: Format,
+    base: u32,
+    memory: &[u8],
+    marks: &[u8],
+    header: &[u8],
+    entry: Entry,
+    out: &mut [u8],
+) -> Written
+    ensures answer { λ r. ⌜ r ≡ writeAnswer (write (formatOf format) (windowOf base (now (memory .entry)) (now (marks .entry))) (now (header .entry)) entry (length (now (out .entry)))) ⌝ }
+    ensures output { λ _. ⌜ now (out .exit) ≡ outputAfter (now (out .entry)) (write (formatOf format) (windowOf base (now (memory .entry)) (now (marks .entry))) (now (header .entry)) entry (length (now (out .entry)))) ⌝ }
+{
+    match format {
+        Format::Records => srec_write::write(base, memory, marks, header, entry, out),
+        Format::Tape => tape_write::write(base, memory, marks, header, entry, out),
+    }
+}
+
 // Loads a text into a window, as `load` does, and writes what it left to the output.
 pub fn convert(
+    format: Format,
     base: u32,
     text: &[u8],
     memory: &mut [u8],
     marks: &mut [u8],
     out: &mut [u8],
 ) -> Converted
-    ensures answer { λ r. ⌜ r ≡ converted (windowOf base (now (memory .entry)) (now (marks .entry))) (now (text .entry)) (length (now (out .entry))) ⌝ }
-    ensures memory { λ _. ⌜ now (memory .exit) ≡ memoryAfter (now (memory .entry)) (load (windowOf base (now (memory .entry)) (now (marks .entry))) (plan srec (now (text .entry)))) ⌝ }
-    ensures marks { λ _. ⌜ now (marks .exit) ≡ marksAfter (now (marks .entry)) (load (windowOf base (now (memory .entry)) (now (marks .entry))) (plan srec (now (text .entry)))) ⌝ }
-    ensures output { λ _. ⌜ now (out .exit) ≡ outputOf (now (out .entry)) (windowOf base (now (memory .entry)) (now (marks .entry))) (now (text .entry)) ⌝ }
+    ensures answer { λ r. ⌜ r ≡ converted (formatOf format) (windowOf base (now (memory .entry)) (now (marks .entry))) (now (text .entry)) (length (now (out .entry))) ⌝ }
+    ensures memory { λ _. ⌜ now (memory .exit) ≡ memoryAfter (now (memory .entry)) (load (windowOf base (now (memory .entry)) (now (marks .entry))) (plan (formatOf format) (now (text .entry)))) ⌝ }
+    ensures marks { λ _. ⌜ now (marks .exit) ≡ marksAfter (now (marks .entry)) (load (windowOf base (now (memory .entry)) (now (marks .entry))) (plan (formatOf format) (now (text .entry)))) ⌝ }
+    ensures output { λ _. ⌜ now (out .exit) ≡ outputOf (formatOf format) (now (out .entry)) (windowOf base (now (memory .entry)) (now (marks .entry))) (now (text .entry)) ⌝ }
 {
-    let loaded = load::load(text, base, memory, marks);
+    let loaded = load::load_as(format, text, base, memory, marks);
     let refusal = loaded.refusal;
     if refusal.reason != 0 {
         return Converted::Refused(refusal);
@@ -36,7 +60,7 @@ pub fn convert(
     let bytes = header.bytes;
     let len = header.len;
     let entry = loaded.entry;
-    let written = srec_write::write(base, memory, marks, &bytes[..len], entry, out);
+    let written = write_as(format, base, memory, marks, &bytes[..len], entry, out);
     let declined = written.refusal;
     if declined.reason != 0 {
         return Converted::Refused(declined);

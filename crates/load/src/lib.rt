@@ -46,7 +46,13 @@ fn accepted_answer(header: Header, entry: Entry, records: usize, cells: usize) -
 }
 
 // Loads a text of the format that is told into a window. Nothing is stored before the whole text was checked, so a refusal leaves memory unchanged.
-fn load_as(format: Format, text: &[u8], base: u32, memory: &mut [u8], marks: &mut [u8]) -> Loaded
+pub fn load_as(
+    format: Format,
+    text: &[u8],
+    base: u32,
+    memory: &mut [u8],
+    marks: &mut [u8],
+) -> Loaded
     ensures answer { λ r. ⌜ r ≡ loadAnswer (load (windowOf base (now (memory .entry)) (now (marks .entry))) (plan (formatOf format) (now (text .entry)))) ⌝ }
     ensures memory { λ _. ⌜ now (memory .exit) ≡ memoryAfter (now (memory .entry)) (load (windowOf base (now (memory .entry)) (now (marks .entry))) (plan (formatOf format) (now (text .entry)))) ⌝ }
     ensures marks { λ _. ⌜ now (marks .exit) ≡ marksAfter (now (marks .entry)) (load (windowOf base (now (memory .entry)) (now (marks .entry))) (plan (formatOf format) (now (text .entry)))) ⌝ }

@@ -1,12 +1,17 @@
--- Marks in a form: what is stored is read back; marks that show an image; tidy marks.
+-- Marks in a form: what is stored is read back; marks that show an image; tidy marks; row 16.
 use mathlib.Core.Path.{_≡_, refl, sym, ap, _∙_}
 use Prim.Native.Nat.{ℕ}
+use native.Mathlib.Omega.{arith}
+use mathlib.Core.Bool.{true, false}
 use mathlib.Core.List.{List}
 use lib.ListN.{length, length-map}
+use Rattle.lists.proofs.TestLaws.{by-test}
+use Rattle.window.specs.Windows.{firstBadMark, row16}
 use Rattle.window.specs.Images.{Image, mark, marksOf}
 use Rattle.marks.specs.declared.Form.{Form}
 use Rattle.marks.specs.declared.Form.the-variants.{Bytes}
-use Rattle.marks.specs.Forms.{flags, markBytes, stored, Tidy, marksIn}
+use Rattle.marks.specs.declared.Bad.the-variants.{At, Nothing}
+use Rattle.marks.specs.Forms.{flags, markBytes, stored, Tidy, marksIn, badMark}
 
 -- the only form: marks are the flags themselves
 pub flags-bytes : (form : Form) (n : ℕ) (ms : List ℕ) → flags form n ms ≡ ms
@@ -45,3 +50,17 @@ module _ (form : Form) (img : Image) (n : ℕ) (long : length img ≡ n) (ms : L
   -- they are tidy
   pub image-tidy : Tidy form n ms
   image-tidy = (ap length flags-are ∙ length-map img mark ∙ long, e ∙ ap (stored form) (sym flags-are))
+
+-- ---- row 16, as `first_bad` answers
+
+-- it applies, at its place
+pub bad-at : (form : Form) (n : ℕ) (ms : List ℕ) (place : ℕ) → At place ≡ badMark form n ms → (row16 ms ≡ true) × (place ≡ firstBadMark ms)
+bad-at Bytes n ms place q =
+    by-test (row16 ms) (λ t. let p : At place ≡ At (firstBadMark ms) = q ∙ rw t in (t, cc))
+    (λ t. absurd (let p : At place ≡ Nothing = q ∙ rw t in let z : _≡_ {A = ℕ} 0 1 = cc in omega arith))
+
+-- it does not apply
+pub no-bad : (form : Form) (n : ℕ) (ms : List ℕ) → Nothing ≡ badMark form n ms → row16 ms ≡ false
+no-bad Bytes n ms q =
+    by-test (row16 ms)
+    (λ t. absurd (let p : Nothing ≡ At (firstBadMark ms) = q ∙ rw t in let z : _≡_ {A = ℕ} 0 1 = cc in omega arith)) (λ t. t)

@@ -2,7 +2,7 @@
 use mathlib.Core.Path.{_≡_, refl, sym, ap, _∙_}
 use Prim.Native.Nat.{ℕ, _+_, _*_, _-_, _%_, _≤_}
 use native.Mathlib.Omega.{arith}
-use mathlib.Core.List.{List, [], _∷_, _++_}
+use mathlib.Core.List.{List, [], _∷_, _++_, append-assoc}
 use lib.ListN.{length, set, length-append}
 use Rattle.hex.specs.Digits.{digitsOf}
 use Rattle.hex.specs.Numbers.{inBytes, sum}
@@ -12,6 +12,7 @@ use Rattle.lists.specs.Lists.{over}
 use Rattle.srec.specs.Kinds.{Kind, typeOf, width}
 use Rattle.srec.specs.Reading.{checksum}
 use Rattle.srec.specs.Writing.{summed, recordWith, recordText}
+use Rattle.srec.specs.Canonical.{line}
 use Rattle.srec_encode.specs.Records.{lineWith, lineOf}
 use Rattle.lists.proofs.OverLaws.{over-two, over-next, over-store, over-all}
 use Rattle.hex_write.proofs.PutLaws.{digits-append, sum-append}
@@ -20,6 +21,11 @@ use Rattle.hex_write.proofs.PutLaws.{digits-append, sum-append}
 pub line-text : (k : Kind) (a : ℕ) (ds : List ℕ) → lineOf (typeOf k) (width k) a ds ≡ recordText k a ds ++ (10 ∷ [])
 unfolding lineOf lineWith
 line-text k a ds = refl
+
+-- a line is put before the rest
+pub line-before : (k : Kind) (a : ℕ) (ds rest : List ℕ) → line k a ds rest ≡ lineOf (typeOf k) (width k) a ds ++ rest
+unfolding line
+line-before k a ds rest = sym (ap (λ (l : List ℕ). l ++ rest) (line-text k a ds) ∙ append-assoc (recordText k a ds) (10 ∷ []) rest)
 
 -- the length, for the address bytes
 length-with : (kind : ℕ) (address ds : List ℕ) → length (lineWith kind address ds) ≡ 7 + 2 * length address + 2 * length ds

@@ -161,6 +161,19 @@ module _ (place : ℕ) (n : State) (chars : List ℕ) where
   abbrev whole : Step
   whole = asStep place (stateWith [] n) (judged (stateWith [] n) (read chars))
 
+  -- where the numbers have room for a record's characters, they have it for what it adds
+  pub judge-fits : {kind a count : ℕ} → Got chars kind a count
+      → (n .number + length chars < 2 ^ 64) × (n .records + length chars < 2 ^ 64) × (n .cells + length chars < 2 ^ 64)
+      → (isKnown (kindOf kind) ≡ true) × (n .number + 1 < 2 ^ 64) × (n .records + 1 < 2 ^ 64) × (n .cells + count < 2 ^ 64) × (count < 2 ^ 32)
+  judge-fits g room =
+      let long = g .fields .long in (
+        ap isKnown (g .known-is),
+        omega (arith, room .0, long),
+        omega (arith, room .1, long),
+        omega (arith, room .2, long, g .len),
+        omega (arith, g .small .1),
+      )
+
   -- a record that was read is judged
   pub step-good : {kind a count : ℕ} → Got chars kind a count → (r : Step)
       → r ≡ asStep place (stateWith [] n) (judge (stateWith [] n) (known (kindOf kind)) a (replicate count 0)) → r ≡ whole

@@ -1,2 +1,2 @@
 pub mod JudgeLaws
-pub mod TakeLaws
+pub mod RecordGapLaws

@@ -1,7 +1,7 @@
 -- The length of the canonical text.
 use mathlib.Core.Path.{_≡_, ap, _∙_}
 use Prim.Native.Nat.{ℕ, _+_, _*_, _^_, _≤_}
-use native.Mathlib.Nat.{mul-le-mul-left, mul-le-mul-right, le-trans, suc-mul}
+use native.Mathlib.Nat.{mul-le-mul-left, mul-le-mul-right, le-trans}
 use native.Mathlib.Omega.{arith}
 use mathlib.Core.Bool.{cond}
 use mathlib.Core.List.{List, [], _∷_}
@@ -13,12 +13,12 @@ use Rattle.window.specs.declared.Entry.the-variants.{Present}
 use Rattle.window.proofs.CellLaws.{total-flat}
 use Rattle.text.specs.Runs.{runs, dataLines}
 use Rattle.text.proofs.RunLaws.{flat-runs}
+use Rattle.text.proofs.WriteLaws.{length-lines}
 use Rattle.srec.specs.Kinds.{Kind, typeOf, width}
 use Rattle.srec.specs.Kinds.Kind.{S0, Data, S5, End}
 use Rattle.srec.specs.Canonical.{follow, largest, widthFor, line, dataLine, countLine, canonical}
 use Rattle.srec_encode.specs.Records.{lineOf}
-use Rattle.srec_encode.proofs.EncodeLaws.{length-line}
-use Rattle.srec_write.proofs.PieceLaws.{line-before}
+use Rattle.srec_encode.proofs.EncodeLaws.{length-line, line-before}
 use Rattle.srec_write.specs.Pieces.{lengthFor}
 
 -- the records of a text of at most 2 ^ 32 cells take less than 2 ^ 36 characters
@@ -37,10 +37,7 @@ length-before k a ds rest =
 
 -- the data records before the rest
 length-data : (w : ℕ) (rs : List Run) (rest : List ℕ) → length (dataLines (dataLine w) rs rest) ≡ length rs * (7 + 2 * w) + 2 * total rs + length rest
-length-data w [] rest = omega arith
-length-data w (r ∷ rs) rest =
-    length-before (Data w) (r .addr) (r .bytes) (dataLines (dataLine w) rs rest)
-    ∙ omega (arith, length-data w rs rest, suc-mul (length rs) (7 + 2 * w))
+length-data w = length-lines (dataLine w) (7 + 2 * w) (λ r rest. length-before (Data w) (r .addr) (r .bytes) rest)
 
 -- S5, if it is written, before the rest
 length-count : (n : ℕ) (rest : List ℕ) → length (countLine n rest) ≡ cond (leb n 65535) 11 0 + length rest

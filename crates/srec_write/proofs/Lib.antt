@@ -1,3 +1,3 @@
 pub mod PieceLaws
 pub mod LengthLaws
-pub mod WriteLaws
+pub mod RecordRowLaws

@@ -13,7 +13,7 @@ use Rattle.window.specs.Cells.{Cell, Run, shown}
 use Rattle.text.specs.Runs.{runs, dataLines}
 use Rattle.window.specs.Walks.{unmarked}
 use Rattle.text.specs.Write.{textOf}
-use Rattle.text.proofs.RunWalkLaws.{cellsFrom, NextAt, from-next, from-zero, from-end, EndsAt, runs-at}
+use Rattle.text.proofs.WriteLaws.{lines-before}
 use Rattle.srec.specs.Kinds.{Kind, typeOf, width}
 use Rattle.srec.specs.Kinds.Kind.{S0, Data, S5, End}
 use Rattle.srec.specs.Writing.{recordText}
@@ -21,24 +21,17 @@ use Rattle.srec.specs.Canonical.{follow, largest, widthFor, line, dataLine, cou
 use Rattle.srec.specs.Formats.{srec}
 use Rattle.srec_encode.specs.Records.{lineOf}
 use Rattle.lists.proofs.PendingLaws.{Pending, pending-start, pending-room, pending-more, pending-end}
-use Rattle.srec_encode.proofs.EncodeLaws.{line-text, length-line}
-use Rattle.srec_write.specs.Pieces.{dataText, countText}
+use Rattle.srec_encode.proofs.EncodeLaws.{length-line, line-before}
+use Rattle.formats.specs.declared.Format.the-variants.{Records}
+use Rattle.data_lines.specs.Pieces.{dataText}
+use Rattle.data_lines.proofs.DataLineLaws.{line-before as data-line-before}
+use Rattle.srec_write.specs.Pieces.{countText}
 
 -- ---- the pieces
 
--- a line is put before the rest
-pub line-before : (k : Kind) (a : ℕ) (ds rest : List ℕ) → line k a ds rest ≡ lineOf (typeOf k) (width k) a ds ++ rest
-unfolding line
-line-before k a ds rest = sym (ap (λ (l : List ℕ). l ++ rest) (line-text k a ds) ∙ append-assoc (recordText k a ds) (10 ∷ []) rest)
-
 -- the data records are put before the rest
 pub data-before : (w : ℕ) (rs : List Run) (rest : List ℕ) → dataLines (dataLine w) rs rest ≡ dataLines (dataLine w) rs [] ++ rest
-data-before w [] rest = refl
-data-before w (r ∷ rs) rest =
-    let own = lineOf (47 + w) w (r .addr) (r .bytes) in
-    line-before (Data w) (r .addr) (r .bytes) (dataLines (dataLine w) rs rest) ∙ ap (λ (l : List ℕ). own ++ l) (data-before w rs rest)
-    ∙ sym (append-assoc own (dataLines (dataLine w) rs []) rest)
-    ∙ ap (λ (l : List ℕ). l ++ rest) (sym (line-before (Data w) (r .addr) (r .bytes) (dataLines (dataLine w) rs [])))
+data-before w = lines-before (dataLine w) (data-line-before Records w)
 
 -- and so is S5, if it is written
 pub count-before : (n : ℕ) (rest : List ℕ) → countLine n rest ≡ countLine n [] ++ rest
@@ -60,14 +53,14 @@ count-left-out n h = rw (lt-leb n 65535 h)
 
 -- S0, the data records, S5 and the terminator
 pub text-pieces : (W : Window) (header : List ℕ) (e records w : ℕ) → records ≡ length (runs follow (shown W)) → w ≡ widthFor (largest e (shown W))
-    → textOf srec W header (Present e) ≡ lineOf 48 2 0 header ++ (dataText w (shown W) ++ (countText records ++ (lineOf (59 - w) w e [] ++ [])))
+    → textOf srec W header (Present e) ≡ lineOf 48 2 0 header ++ (dataText Records w (shown W) ++ (countText records ++ (lineOf (59 - w) w e [] ++ [])))
 unfolding textOf canonical
 text-pieces W header e records w p q =
     let last : List ℕ = line (End w) e [] [] in
     rw (← q, ← p)
     (line-before S0 0 header (dataLines (dataLine w) (runs follow (shown W)) (countLine records last))
     ∙ ap (λ (l : List ℕ). lineOf 48 2 0 header ++ l) (data-before w (runs follow (shown W)) (countLine records last)
-    ∙ ap (λ (l : List ℕ). dataText w (shown W) ++ l) (count-before records last
+    ∙ ap (λ (l : List ℕ). dataText Records w (shown W) ++ l) (count-before records last
     ∙ ap (λ (l : List ℕ). countText records ++ l) (line-before (End w) e [] []))))
 
 -- ---- a line more
@@ -83,49 +76,3 @@ module _ (whole : List ℕ) (kind w a : ℕ) (ds ys : List ℕ) (start at : ℕ)
   pub line-more : (p : ℕ) (out′ : List ℕ) → p ≡ at + (7 + 2 * w + 2 * length ds) → out′ ≡ over out at (lineOf kind w a ds) → length out′ ≡ length out
       → Pending whole ys start p o out′
   line-more p out′ q t l = pending-more whole (lineOf kind w a ds) ys start at p o out out′ h d (rw (length-line kind w a ds) q) t l
-
--- ---- the data records, run by run
-
-module _ (base : ℕ) (memory marks : List ℕ) (w : ℕ) (e : length memory ≡ length marks) where
-  -- all data records
-  abbrev all : List ℕ
-  all = dataText w (shown (windowOf base memory marks))
-
-  -- the data records of the cells from index i on
-  abbrev rest : ℕ → List ℕ
-  rest i = dataText w (cellsFrom base memory marks i)
-
-  -- before the first run
-  pub data-start : (i start : ℕ) (o : List ℕ) → NextAt marks 0 i → Pending all (rest i) start start o o
-  data-start i start o q = pending-start all (rest i) start o
-      (ap (dataText w) (sym (from-next base memory marks 0 i q ∙ from-zero base memory marks)))
-
-  module _ (i j : ℕ) (h : i < length marks) (g : unmarked (drop i marks) ≡ 0) (q : EndsAt follow base marks i j) (start at : ℕ) (o out : List ℕ)
-      (fits : start + length all ≤ length o) (d : Pending all (rest i) start at o out) where
-    -- the data bytes of the run from i to j
-    abbrev own : List ℕ
-    own = take (j - i) (drop i memory)
-
-    -- the record of the run at i, and those behind it
-    next : (n : ℕ) → NextAt marks j n → Pending all (lineOf (47 + w) w (base + i) own ++ rest n) start at o out
-    next n p =
-        subst (λ (l : List ℕ). Pending all l start at o out)
-        (ap (λ (rs : List Run). dataLines (dataLine w) rs []) (runs-at follow base memory marks i j e h g q)
-        ∙ line-before (Data w) (base + i) own (rest j)
-        ∙ ap (λ (cs : List Cell). lineOf (47 + w) w (base + i) own ++ dataText w cs) (sym (from-next base memory marks j n p))) d
-
-    -- it has room: what `put_line` requires in `put_cells`
-    pub data-room : at + (7 + 2 * w + 2 * length own) ≤ length out
-    data-room = line-room all (47 + w) w (base + i) own (rest (j + unmarked (drop j marks))) start at o out fits
-        (next (j + unmarked (drop j marks)) refl)
-
-    -- it is written: a turn of `put_cells`
-    pub data-more : (n p : ℕ) (out′ : List ℕ) → NextAt marks j n → p ≡ at + (7 + 2 * w + 2 * length own)
-        → out′ ≡ over out at (lineOf (47 + w) w (base + i) own) → length out′ ≡ length out → Pending all (rest n) start p o out′
-    data-more n p out′ m = line-more all (47 + w) w (base + i) own (rest n) start at o out fits (next n m) p out′
-
-  -- behind the last run: the return of `put_cells`
-  pub data-end : (i start at : ℕ) (o out : List ℕ) → length marks ≤ i → Pending all (rest i) start at o out
-      → (at ≡ start + length all) × (out ≡ over o start all)
-  data-end i start at o out h d =
-      pending-end all start at o out (subst (λ (l : List ℕ). Pending all l start at o out) (ap (dataText w) (from-end base memory marks i e h)) d)

@@ -3,15 +3,9 @@ use Prim.Native.Nat.{ℕ, _+_, _*_}
 use mathlib.Core.Bool.{cond}
 use mathlib.Core.List.{List, []}
 use lib.Dec.{leb}
-use Rattle.window.specs.Cells.{Cell}
-use Rattle.text.specs.Runs.{runs, dataLines}
-use Rattle.srec.specs.Canonical.{follow, dataLine, countLine}
+use Rattle.srec.specs.Canonical.{countLine}
 
--- the data records of some cells in a width
-abbrev pub dataText : ℕ → List Cell → List ℕ
-dataText width cs = dataLines (dataLine width) (runs follow cs) []
-
--- the S5 record of their number
+-- the S5 record of a number of data records
 abbrev pub countText : ℕ → List ℕ
 countText records = countLine records []
 

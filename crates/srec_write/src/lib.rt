@@ -1,7 +1,8 @@
 // The canonical text of a window, written into a lent output.
+use formats::Format;
 use marks::Bad;
 use marks::Form;
-use srec_size::Size;
+use size::Size;
 use window::Entry;
 use window::Written;
 ghost use mathlib.Core.Path.{_≡_};
@@ -9,16 +10,14 @@ ghost use Prim.Native.Nat.{_+_, _^_, _≤_};
 ghost use lib.ListN.{length};
 ghost use Rattle.window.specs.declared.Entry.the-variants.{Present};
 ghost use Rattle.window.specs.Windows.{windowOf};
-ghost use Rattle.window.specs.Plans.{refusal};
 ghost use Rattle.lists.specs.Lists.{over};
 ghost use Rattle.window.specs.Cells.{shown};
 ghost use Rattle.marks.specs.Forms.{markBytes, plain};
 ghost use Rattle.text.specs.Runs.{runs};
 ghost use Rattle.text.specs.Write.{textOf, write, writeAnswer, outputAfter};
-ghost use Rattle.text.specs.Write.WriteOutcome.{declined};
 ghost use Rattle.srec.specs.Canonical.{follow, largest, widthFor};
 ghost use Rattle.srec.specs.Formats.{srec};
-ghost use Rattle.srec_write.specs.Pieces.{dataText, countText, lengthFor};
+ghost use Rattle.srec_write.specs.Pieces.{countText, lengthFor};
 
 // The most bytes of a header, and the most records that S5 counts.
 const MOST_HEADER: usize = 252;
@@ -30,9 +29,7 @@ const FRAME: usize = 7;
 
 const SHORT: usize = FRAME + 4;
 
-// The types S1 to S3 of data records go up with their address bytes, 2 to 4, and S9 to S7 of terminators go down.
-const DATA_TYPE: u8 = b'1' - 2;
-
+// The types S9 to S7 of terminators go down with their address bytes, 2 to 4.
 const END_TYPE: u8 = b'9' + 2;
 
 // The length of the canonical text.
@@ -47,33 +44,6 @@ fn text_length(size: Size, header: usize, width: usize) -> usize
         return least + SHORT;
     }
     least
-}
-
-// Writes the data records, one for each run, and returns the place behind them.
-fn put_cells(
-    out: &mut [u8],
-    start: usize,
-    base: u32,
-    memory: &[u8],
-    form: Form,
-    marks: &[u8],
-    width: usize,
-) -> usize
-    requires { ⌜ (width ≤ 4) × (length (now marks) ≡ markBytes form (length (now memory))) × (base + length (now memory) ≤ 2 ^ 32) ⌝ }
-    requires { ⌜ start + length (dataText width (shown (plain form (windowOf base (now memory) (now marks))))) ≤ length (now out) ⌝ }
-    ensures { λ r. ⌜ r ≡ start + length (dataText width (shown (plain form (windowOf base (now (memory .entry)) (now (marks .entry)))))) ⌝ }
-    ensures { λ _. ⌜ now (out .exit) ≡ over (now (out .entry)) start (dataText width (shown (plain form (windowOf base (now (memory .entry)) (now (marks .entry)))))) ⌝ }
-{
-    let kind = DATA_TYPE + width as u8;
-    let mut at = start;
-    let cells = memory.len();
-    let mut from = marks::next_marked(form, marks, cells, 0);
-    while from < cells {
-        let to = srec_size::run_end(base, form, marks, cells, from);
-        at = srec_encode::put_line(out, at, kind, width, base + from as u32, &memory[from..to]);
-        from = marks::next_marked(form, marks, cells, to);
-    }
-    at
 }
 
 // Writes S5 with the number of data records, if two bytes hold it, and returns the place behind it.
@@ -109,30 +79,19 @@ fn put_text(
 {
     let none = [0u8; 0];
     let behind_header = srec_encode::put_line(out, 0, b'0', 2, 0, header);
-    let behind_data = put_cells(out, behind_header, base, memory, form, marks, width);
+    let behind_data = data_lines::put_cells(
+        Format::Records,
+        out,
+        behind_header,
+        base,
+        memory,
+        form,
+        marks,
+        width,
+    );
     let behind_count = put_count(out, behind_data, records);
     let kind = END_TYPE - width as u8;
     srec_encode::put_line(out, behind_count, kind, width, entry, &none);
-}
-
-// The answer of a refused write.
-fn refused(reason: u32, place: usize) -> Written
-    ensures { λ r. ⌜ r ≡ writeAnswer (declined (refusal reason 0 place)) ⌝ }
-{
-    Written {
-        refusal: window::refuse(reason, 0, place),
-        length: 0,
-    }
-}
-
-// The answer of an accepted write of a text of this length.
-fn accepted(length: usize) -> Written
-    ensures { λ r. ⌜ r ≡ record { refusal = refusal 0 0 0; length = length } ⌝ }
-{
-    Written {
-        refusal: window::refuse(0, 0, 0),
-        length,
-    }
 }
 
 // Writes the canonical text of a window at the start of the output, or says which row refuses that.
@@ -148,27 +107,27 @@ pub fn write(
     ensures output { λ _. ⌜ now (out .exit) ≡ outputAfter (now (out .entry)) (write srec (windowOf base (now (memory .entry)) (now (marks .entry))) (now (header .entry)) entry (length (now (out .entry)))) ⌝ }
 {
     if !window::is_allowed(base, memory, marks) {
-        return refused(1, 0);
+        return text::refused_write(1, 0);
     }
     if header.len() > MOST_HEADER {
-        return refused(15, 0);
+        return text::refused_write(15, 0);
     }
     let form = Form::Bytes;
     let cells = memory.len();
     let bad = marks::first_bad(form, marks, cells);
     if let Bad::At(place) = bad {
-        return refused(16, place);
+        return text::refused_write(16, place);
     }
     let Entry::Present(start) = entry else {
-        return refused(18, 0);
+        return text::refused_write(18, 0);
     };
-    let size = srec_size::size_of(base, form, marks, cells, start);
-    let width = srec_size::width_for(size.largest);
+    let size = size::size_of(Format::Records, base, form, marks, cells, start);
+    let width = size::width_for(size.largest);
     let need = text_length(size, header.len(), width);
     if out.len() < need {
-        return refused(17, need);
+        return text::refused_write(17, need);
     }
     let count = size.records;
     put_text(out, base, memory, form, marks, header, start, count, width);
-    accepted(need)
+    text::accepted_write(need)
 }

@@ -1,15 +1,13 @@
 -- What one line with data for cells leaves in memory, in any format.
 use mathlib.Core.Path.{_≡_, refl, sym, ap, ap₂, _∙_, subst}
 use Prim.Native.Nat.{ℕ, suc, _+_, _-_, _*_, _≤_}
-use native.Mathlib.Nat.{add-zero, add-sub-cancel-left}
+use native.Mathlib.Nat.{add-zero}
 use native.Mathlib.Omega.{arith}
 use mathlib.Core.Bool.{false}
 use mathlib.Core.List.{List, [], _∷_}
 use lib.ListN.{length, take, drop, take-append-drop}
 use lib.Seq.{drop-drop}
-use borrow.Rule.Slice.PartMut.{putMid}
 use Rattle.lists.specs.Lists.{over}
-use Rattle.lists.proofs.OverLaws.{lent-over}
 use Rattle.hex.specs.Digits.{bytes, firstBad}
 use Rattle.hex.proofs.DigitLaws.{digits-part}
 use Rattle.window.specs.Plans.{row12}
@@ -51,12 +49,10 @@ module _ (m chars : List ℕ) (base start : ℕ) {x : Step} (d : DataLine chars 
       = inside base (length m) (d .a) (length (d .ds) - 1) (ap (row12 base (length m) (d .a)) (sym e) ∙ d .twelve) in
       (k .0, omega (arith, k .1))
 
-  -- a part of memory that was lent for them, with the address and the number of bytes as the code has them
-  pub part-stored : (address n : ℕ) (part : List ℕ) → address ≡ d .a → n ≡ length (d .ds)
-      → length (take (address - base + n - (address - base)) (drop (address - base) m)) ≡ length (d .ds)
-      → part ≡ bytes (take (2 * length (take (address - base + n - (address - base)) (drop (address - base) m))) (drop start chars))
-      → putMid (address - base) (address - base + n - (address - base)) m part ≡ storedBy base m x
-  part-stored address n part e l k q =
-      let p : part ≡ d .ds = q ∙ ap (λ (j : ℕ). bytes (take (2 * j) (drop start chars))) k ∙ sym (d .data-is) in
-      lent-over (address - base) (address - base + n - (address - base)) m part (add-sub-cancel-left (address - base) n ∙ l ∙ ap length (sym p))
-      ∙ ap₂ (λ (i : ℕ) (y : List ℕ). over m (i - base) y) e p ∙ rw (d .is) refl
+  -- they are stored at their address, where the code has that and their number
+  pub data-stored : (address count : ℕ) (out : List ℕ) → address ≡ d .a → count ≡ length (d .ds)
+      → out ≡ over m (address - base) (bytes (take (2 * count) (drop start chars))) → out ≡ storedBy base m x
+  data-stored address count out e l q =
+      let p : bytes (take (2 * count) (drop start chars)) ≡ d .ds
+      = ap (λ (n : ℕ). bytes (take (2 * n) (drop start chars))) l ∙ sym (d .data-is) in
+      rw (d .is) (q ∙ ap₂ (λ (i : ℕ) (y : List ℕ). over m (i - base) y) e p)

@@ -7,6 +7,7 @@ ghost use mathlib.Core.Path.{_≡_};
 ghost use mathlib.Core.List.{[]};
 ghost use Prim.Native.Nat.{_+_, _*_, _≤_};
 ghost use lib.ListN.{length, take, drop};
+ghost use Rattle.lists.specs.Lists.{over};
 ghost use Rattle.hex.specs.Digits.{bytes, firstBad};
 ghost use Rattle.hex.specs.Tables.{digitTable};
 ghost use Rattle.window.specs.Images.{blank};
@@ -37,6 +38,23 @@ fn store_data(table: &[u32; 256], part: &mut [u8], chars: &[u8], start: usize)
     hex_store::store_digits(table, part, &chars[start..end]);
 }
 
+// Stores so many data bytes of a line that was read into the middle of memory, from an index on.
+fn place_data(
+    table: &[u32; 256],
+    memory: &mut [u8],
+    chars: &[u8],
+    start: usize,
+    from: usize,
+    count: usize,
+)
+    requires { ⌜ (now table ≡ digitTable) × (start + 2 * count ≤ length (now chars)) × (from + count ≤ length (now memory)) ⌝ }
+    requires { ⌜ length (take (2 * count) (drop start (now chars))) ≤ firstBad (take (2 * count) (drop start (now chars))) ⌝ }
+    ensures { λ _. ⌜ now (memory .exit) ≡ over (now (memory .entry)) from (bytes (take (2 * count) (drop start (now (chars .entry))))) ⌝ }
+{
+    let to = from + count;
+    store_data(table, &mut memory[from..to], chars, start);
+}
+
 // Stores the data of a record that was checked into the middle of memory, at its address less the base.
 fn place_record(table: &[u32; 256], base: usize, memory: &mut [u8], chars: &[u8])
     requires { ⌜ (now table ≡ digitTable) × Placeable base (length (now memory)) (carried (read (now chars))) ⌝ }
@@ -57,9 +75,7 @@ fn place_record(table: &[u32; 256], base: usize, memory: &mut [u8], chars: &[u8]
     }
     let end = 4 + 2 * width;
     let address = hex::number_of(table, &chars[4..end]) as usize;
-    let from = address - base;
-    let to = from + count;
-    store_data(table, &mut memory[from..to], chars, end);
+    place_data(table, memory, chars, end, address - base, count);
 }
 
 // The same for a line of a tape.
@@ -73,9 +89,7 @@ fn place_line(table: &[u32; 256], base: usize, memory: &mut [u8], chars: &[u8])
         return;
     }
     let address = hex::number_of(table, &chars[3..LINE_DATA]) as usize;
-    let from = address - base;
-    let to = from + count;
-    store_data(table, &mut memory[from..to], chars, LINE_DATA);
+    place_data(table, memory, chars, LINE_DATA, address - base, count);
 }
 
 // The same in the format that is told.

@@ -1,4 +1,4 @@
--- Worked examples of tapes: the two sample tapes of source 003, lines that each row refuses, the order of the rows.
+-- Worked examples of tapes: two sample tapes ("Hello, World", and that of the KIM-1 manual), lines that each row refuses, the order of the rows.
 use Prim.Native.Nat.{ℕ}
 use mathlib.Core.List.{List, [], _∷_, _++_, map}
 use mathlib.Core.Option.{some}

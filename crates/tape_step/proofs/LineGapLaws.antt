@@ -1,15 +1,13 @@
 -- A line that was read has no separator inside.
 use mathlib.Core.Path.{_≡_}
-use Prim.Native.Nat.{ℕ, _≤_}
+use Prim.Native.Nat.{ℕ}
 use native.Mathlib.Omega.{arith}
 use mathlib.Core.Bool.{true, false}
 use mathlib.Core.List.{List, [], _∷_}
-use lib.ListN.{length}
 use borrow.Author.Tests.{ne-eqb}
-use Rattle.hex.specs.Digits.{between, isHex, firstBad}
-use Rattle.hex.proofs.DigitLaws.{first-is}
+use Rattle.hex.specs.Digits.{between, isHex}
 use Rattle.text.specs.Lines.{front}
-use Rattle.text.proofs.LineLaws.{Free, all-front}
+use Rattle.text.proofs.LineLaws.{Free, all-front, hex-free}
 use Rattle.tape.specs.Lines.{isGap}
 use Rattle.tape_step.proofs.LineFieldLaws.{LineGot}
 
@@ -26,17 +24,12 @@ hex-no-gap c h = no-gap c (λ e. never (rw e at h)) (λ e. never (rw e at h)) (�
     never : false ≡ true → ⊥
     never q = let z : _≡_ {A = ℕ} 0 1 = cc in omega arith
 
--- hex digits
-digits-no-gap : (cs : List ℕ) → length cs ≤ firstBad cs → Free isGap cs
-digits-no-gap [] h = tt
-digits-no-gap (c ∷ cs) h = let f = first-is c cs h in (hex-no-gap c (f .0), digits-no-gap cs (f .1))
-
 -- all characters of a good line
 line-no-gap : (chars : List ℕ) (a len : ℕ) → LineGot chars a len → Free isGap chars
 line-no-gap [] a len g = tt
 line-no-gap (c ∷ cs) a len g =
     let e : c ≡ 59 = g .letter in
-    (no-gap c (λ q. omega arith) (λ q. omega arith) (λ q. omega arith) (λ q. omega arith), digits-no-gap cs (g .digits))
+    (no-gap c (λ q. omega arith) (λ q. omega arith) (λ q. omega arith) (λ q. omega arith), hex-free isGap hex-no-gap cs (g .digits))
 
 -- so they are all before the first separator
 pub line-front : (chars : List ℕ) (a len : ℕ) → LineGot chars a len → front isGap chars ≡ chars

@@ -86,6 +86,16 @@ module _ (place : ℕ) (n : State) (chars : List ℕ) where
       go (bad f) w e = cc
 
   module _ (a len : ℕ) (g : LineGot chars a len) where
+    -- where the numbers have room for a line's characters, they have it for what it adds
+    pub judge-fits : (n .number + length chars < 2 ^ 64) × (n .records + length chars < 2 ^ 64) × (n .cells + length chars < 2 ^ 64)
+        → (n .number + 1 < 2 ^ 64) × (n .records + 1 < 2 ^ 64) × (n .cells + len < 2 ^ 64) × (len < 256)
+    judge-fits room = (
+      omega (arith, room .0, g .long),
+      omega (arith, room .1, g .long),
+      omega (arith, room .2, g .long),
+      omega (arith, g .short, g .long),
+    )
+
     -- a wrong check
     pub row-7 : (given right : ℕ) → given ≡ checkIn (bs chars) → right ≡ checkOf (covered (bs chars)) → (given ≡ right → ⊥) → Refuse 7 place 0 ≡ whole
     unfolding judge row7

@@ -15,3 +15,4 @@ pub mod ResultLaws
 pub mod CaseLaws
 pub mod StepLaws
 pub mod AcrossLaws
+pub mod WriteLaws

@@ -1,10 +1,14 @@
-// What a walk over the lines of a text keeps, and what finding a line and a step answer.
+// What a walk over the lines of a text keeps, what finding a line and a step answer, and the answers of a write.
 use window::Entry;
+use window::Written;
 ghost use mathlib.Core.Path.{_≡_};
 ghost use Prim.Native.Nat.{_+_, _^_, _<_};
 ghost use mathlib.Core.List.{[]};
+ghost use Rattle.window.specs.Plans.{refusal};
 ghost use Rattle.text.specs.Scan.{start as startScan, more, moreData};
 ghost use Rattle.text.specs.Steps.{numbers, stateWith};
+ghost use Rattle.text.specs.Write.{writeAnswer};
+ghost use Rattle.text.specs.Write.WriteOutcome.{declined};
 
 // Where a line stands: from its first character to behind its last.
 pub enum Found {
@@ -73,5 +77,25 @@ pub fn after_data(state: State, count: usize) -> State
         number: state.number + 1,
         records: state.records + 1,
         cells: state.cells + count,
+    }
+}
+
+// The answer of a refused write.
+pub fn refused_write(reason: u32, place: usize) -> Written
+    ensures { λ r. ⌜ r ≡ writeAnswer (declined (refusal reason 0 place)) ⌝ }
+{
+    Written {
+        refusal: window::refuse(reason, 0, place),
+        length: 0,
+    }
+}
+
+// The answer of an accepted write of a text of this length.
+pub fn accepted_write(length: usize) -> Written
+    ensures { λ r. ⌜ r ≡ record { refusal = refusal 0 0 0; length = length } ⌝ }
+{
+    Written {
+        refusal: window::refuse(0, 0, 0),
+        length,
     }
 }

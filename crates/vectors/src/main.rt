@@ -1,8 +1,10 @@
 // Runs the cases that stand on standard input and prints the whole answer to each.
 //
 // A case is a heading line, then the text itself, every character of it, up to the next `@`. The heading is `@`, the window's base,
-// `:`, its number of cells, both in eight hex digits, and a name, as in `@0000FFFE:00000002 the last cells`.
+// `:`, its number of cells, both in eight hex digits, and a name, as in `@0000FFFE:00000002 the last cells`. Before the name stands a
+// space for S-records, and `;` for a paper tape.
 use convert::Converted;
+use formats::Format;
 use libc::STDIN_FILENO;
 use libc::STDOUT_FILENO;
 use window::Entry;
@@ -101,8 +103,15 @@ fn print_answer(loaded: Loaded) {
 }
 
 // The canonical text of a text, or why it is refused.
-fn print_canonical(base: u32, text: &[u8], memory: &mut [u8], marks: &mut [u8], out: &mut [u8]) {
-    let converted = convert::convert(base, text, memory, marks, out);
+fn print_canonical(
+    format: Format,
+    base: u32,
+    text: &[u8],
+    memory: &mut [u8],
+    marks: &mut [u8],
+    out: &mut [u8],
+) {
+    let converted = convert::convert(format, base, text, memory, marks, out);
     match converted {
         Converted::Refused(refusal) => {
             print_refusal(refusal);
@@ -117,19 +126,35 @@ fn print_canonical(base: u32, text: &[u8], memory: &mut [u8], marks: &mut [u8], 
 }
 
 // Loads a text and prints the answer, and the canonical text if there is one.
-fn run_text(base: u32, text: &[u8], memory: &mut [u8], marks: &mut [u8], out: &mut [u8]) {
-    let loaded = load::load(text, base, memory, marks);
+fn run_text(
+    format: Format,
+    base: u32,
+    text: &[u8],
+    memory: &mut [u8],
+    marks: &mut [u8],
+    out: &mut [u8],
+) {
+    let loaded = load::load_as(format, text, base, memory, marks);
     print_answer(loaded);
     let refusal = loaded.refusal;
     if refusal.reason == 0 {
-        print_canonical(base, text, memory, marks, out);
+        print_canonical(format, base, text, memory, marks, out);
     }
 }
 
-// Runs a text in the window that its heading gives.
+// The format that a heading tells by the character before the name.
+fn format_of(sign: u8) -> Format {
+    if sign == b';' {
+        return Format::Tape;
+    }
+    Format::Records
+}
+
+// Runs a text in the window and the format that its heading gives.
 fn run_window(table: &[u32; 256], heading: &[u8], text: &[u8])
-    requires { ⌜ (now table ≡ digitTable) × (18 ≤ length (now heading)) ⌝ }
+    requires { ⌜ (now table ≡ digitTable) × (19 ≤ length (now heading)) ⌝ }
 {
+    let format = format_of(heading[18]);
     let base = hex::number_of(table, &heading[1..9]);
     let cells = hex::number_of(table, &heading[10..18]) as usize;
     if cells > 65536 {
@@ -140,6 +165,7 @@ fn run_window(table: &[u32; 256], heading: &[u8], text: &[u8])
     let mut marks = io::large_buffer();
     let mut out = io::large_buffer();
     run_text(
+        format,
         base,
         text,
         &mut memory[..cells],
@@ -154,7 +180,7 @@ fn run_case(table: &[u32; 256], cases: &[u8]) -> usize
     ensures { λ r. ⌜ (0 < r) × (r ≤ length (now (cases .entry))) ⌝ }
 {
     let end = count_before(10, cases);
-    if end < 18 {
+    if end < 19 {
         io::write_all(STDOUT_FILENO, b"bad heading\n");
         return cases.len();
     }

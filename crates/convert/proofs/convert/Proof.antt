@@ -7,7 +7,8 @@ use lib.Seq.{length-take-le}
 use Rattle.window.specs.declared.Loaded.{Loaded}
 use Rattle.window.specs.declared.Written.{Written}
 use Rattle.text.specs.Terms.{Accepted}
-use Rattle.srec.specs.Formats.{srec}
+use Rattle.formats.specs.declared.Format.{Format as Choice}
+use Rattle.formats.specs.Choices.{formatOf}
 use Rattle.window.specs.Windows.{Window, windowOf}
 use Rattle.convert.proofs.ConvertLaws.{header-fits, written-is, load-refused, write-refused, text-written}
 use borrow.Author.Needs.{needs}
@@ -15,61 +16,64 @@ use Rattle.convert.proofs.convert.Statement.{statement}
 use Rattle.convert.proofs.convert.Tie as tie
 
 -- places: the load behind a place, its call, and its window
-abbrev call : tie.After-load → tie.Start
+abbrev call : tie.After-load-as → tie.Start
 call c = c .before .before .before .before .before .before .before
 
-abbrev window : tie.After-load → Window
+abbrev window : tie.After-load-as → Window
 window c = let a = call c .args in windowOf (a .base) (a .memory .now) (a .marks .now)
 
-abbrev text : tie.After-load → List ℕ
+abbrev format : tie.After-load-as → Choice
+format c = call c .args .format
+
+abbrev text : tie.After-load-as → List ℕ
 text c = call c .args .text .now
 
-abbrev out : tie.After-load → List ℕ
+abbrev out : tie.After-load-as → List ℕ
 out c = call c .args .out .now
 
-abbrev behind : tie.Else1 → tie.After-load
+abbrev behind : tie.Else1 → tie.After-load-as
 behind c = c .before .before .before .before .before .before .before
 
-abbrev passed : tie.After-write → tie.Else1
+abbrev passed : tie.After-write-as → tie.Else1
 passed c = c .before .before .before .before .before .before .before
 
 -- the load was accepted, and the write is the one behind it
-accepted-at : (c : tie.Else1) → Accepted srec (window (behind c)) (text (behind c))
-accepted-at c = sym (ap (λ (x : Loaded). x .refusal .reason) (behind c .load .ensures .0)) ∙ c .if1 .left
+accepted-at : (c : tie.Else1) → Accepted (formatOf (format (behind c))) (window (behind c)) (text (behind c))
+accepted-at c = sym (ap (λ (x : Loaded). x .refusal .reason) (behind c .load-as .ensures .0)) ∙ c .if1 .left
 
 returns : tie.Need-returns
 returns c =
     let l = c .before .before .before .before .before .before .before in
-    let r = load-refused (window l) (text l) (out l) _ (ap (λ (x : Loaded). x .refusal) (l .load .ensures .0)) (c .if1 .taken) in
-    (r .0, (l .load .ensures .1 .0, (l .load .ensures .1 .1, r .1)))
+    let r = load-refused (format l) (window l) (text l) (out l) _ (ap (λ (x : Loaded). x .refusal) (l .load-as .ensures .0)) (c .if1 .taken) in
+    (r .0, (l .load-as .ensures .1 .0, (l .load-as .ensures .1 .1, r .1)))
 
 array-share-prefix-bytes : tie.Need-array-share-prefix-bytes
-array-share-prefix-bytes c = let l = behind (c .before .before .before .before) in rw (l .load .ensures .0) (header-fits (window l) (text l))
+array-share-prefix-bytes c = let l = behind (c .before .before .before .before) in rw (l .load-as .ensures .0) (header-fits (formatOf (format l)) (window l) (text l))
 
-slice-aggregate-write : tie.Need-slice-aggregate-write
-slice-aggregate-write c =
+slice-aggregate-write-as : tie.Need-slice-aggregate-write-as
+slice-aggregate-write-as c =
     let l = behind (c .before .before .before .before .before) in
-    sym (length-take-le _ _ (rw (l .load .ensures .0) (header-fits (window l) (text l))))
+    sym (length-take-le _ _ (rw (l .load-as .ensures .0) (header-fits (formatOf (format l)) (window l) (text l))))
 
 returns-2 : tie.Need-returns-2
 returns-2 c =
     let w = c .before .before .before .before .before in
     let l = behind (passed w) in
-    let e = l .load .ensures in
-    let is = written-is (window l) (text l) (length (out l)) (l .load .result) _ _ (e .0) (e .1 .0) (e .1 .1) in
-    let r = write-refused (window l) (text l) (out l) (accepted-at (passed w)) _ is _ _
-    (ap (λ (x : Written). x .refusal) (w .write .ensures .0)) (c .if2 .taken) (w .write .ensures .1) in
+    let e = l .load-as .ensures in
+    let is = written-is (formatOf (format l)) (window l) (text l) (length (out l)) (l .load-as .result) _ _ (e .0) (e .1 .0) (e .1 .1) in
+    let r = write-refused (format l) (window l) (text l) (out l) (accepted-at (passed w)) _ is _ _
+    (ap (λ (x : Written). x .refusal) (w .write-as .ensures .0)) (c .if2 .taken) (w .write-as .ensures .1) in
     (r .0, (e .1 .0, (e .1 .1, r .1)))
 
 returns-3 : tie.Need-returns-3
 returns-3 c =
     let w = c .before .before .before .before .before in
     let l = behind (passed w) in
-    let e = l .load .ensures in
-    let is = written-is (window l) (text l) (length (out l)) (l .load .result) _ _ (e .0) (e .1 .0) (e .1 .1) in
-    let r = text-written (window l) (text l) (out l) (accepted-at (passed w)) _ is _ _
-    (sym (ap (λ (x : Written). x .refusal .reason) (w .write .ensures .0)) ∙ c .if2 .left)
-    (ap (λ (x : Written). x .length) (w .write .ensures .0)) (w .write .ensures .1) in
+    let e = l .load-as .ensures in
+    let is = written-is (formatOf (format l)) (window l) (text l) (length (out l)) (l .load-as .result) _ _ (e .0) (e .1 .0) (e .1 .1) in
+    let r = text-written (format l) (window l) (text l) (out l) (accepted-at (passed w)) _ is _ _
+    (sym (ap (λ (x : Written). x .refusal .reason) (w .write-as .ensures .0)) ∙ c .if2 .left)
+    (ap (λ (x : Written). x .length) (w .write-as .ensures .0)) (w .write-as .ensures .1) in
     (r .0, (e .1 .0, (e .1 .1, r .1)))
 
 pub convert-spec : {M : Type 1} → statement M
@@ -81,7 +85,7 @@ convert-spec =
     (λ c. search needs)
     returns
     array-share-prefix-bytes
-    slice-aggregate-write
+    slice-aggregate-write-as
     (λ c κs. search needs)
     (λ c. search needs)
     (λ c. search needs)

@@ -1,13 +1,11 @@
 -- `good_step` meets its contract: a good record is judged, and has no line end inside; of no answer nothing is said.
-use mathlib.Core.Path.{ap, subst}
-use native.Mathlib.Omega.{arith}
-use Rattle.srec.specs.Kinds.{isKnown}
+use mathlib.Core.Path.{subst}
 use Rattle.srec.specs.Reading.{read}
 use Rattle.srec_read.specs.declared.Record.{Record}
 use Rattle.srec_read.specs.Records.{GoodIs}
 use Rattle.srec_read.proofs.FieldLaws.{Got, got}
-use Rattle.srec_step.proofs.JudgeLaws.{step-good}
-use Rattle.srec_step.proofs.TakeLaws.{good-line}
+use Rattle.srec_step.proofs.JudgeLaws.{judge-fits, step-good}
+use Rattle.srec_step.proofs.RecordGapLaws.{good-line}
 use borrow.Author.Needs.{needs}
 use Rattle.srec_step.proofs.good_step.Statement.{statement}
 use Rattle.srec_step.proofs.good_step.Tie as tie
@@ -25,15 +23,8 @@ got-at c =
 
 judge-requires : tie.Need-judge-requires
 judge-requires c κs =
-    let g = got-at (c .before) in
     let s = call (c .before .before .before) in
-    let long = g .fields .long in (
-      ap isKnown (g .known-is),
-      omega (arith, s .pre .1 .0, long),
-      omega (arith, s .pre .1 .1, long),
-      omega (arith, s .pre .1 .2, long, g .len),
-      omega (arith, g .small .1),
-    )
+    judge-fits (s .args .place) (s .args .state) (s .args .chars .now) (got-at (c .before)) (s .pre .1)
 
 returns-2 : tie.Need-returns-2
 returns-2 c =

@@ -1,10 +1,8 @@
 -- `step_of` meets its contract: a record that cannot be read is refused, and another is judged.
 use mathlib.Core.Path.{sym, ap, _∙_}
-use native.Mathlib.Omega.{arith}
-use Rattle.srec.specs.Kinds.{isKnown}
 use Rattle.srec_step.specs.Refusals.{refusing}
 use Rattle.srec_read.proofs.FieldLaws.{Got, got}
-use Rattle.srec_step.proofs.JudgeLaws.{step-good, step-bad}
+use Rattle.srec_step.proofs.JudgeLaws.{judge-fits, step-good, step-bad}
 use borrow.Author.Needs.{needs}
 use Rattle.srec_step.proofs.step_of.Statement.{statement}
 use Rattle.srec_step.proofs.step_of.Tie as tie
@@ -29,15 +27,8 @@ returns c =
 
 judge-requires : tie.Need-judge-requires
 judge-requires c κs =
-    let g = got-at (c .before) in
     let s = call (c .before .before .before) in
-    let long = g .fields .long in (
-      ap isKnown (g .known-is),
-      omega (arith, s .pre .1 .0, long),
-      omega (arith, s .pre .1 .1, long),
-      omega (arith, s .pre .1 .2, long, g .len),
-      omega (arith, g .small .1),
-    )
+    judge-fits (s .args .place) (s .args .state) (s .args .chars .now) (got-at (c .before)) (s .pre .1)
 
 returns-2 : tie.Need-returns-2
 returns-2 c =

@@ -13,7 +13,9 @@ use Rattle.srec.proofs.FitLaws.{width-is}
 use Rattle.srec_encode.specs.Records.{lineOf}
 use Rattle.window.specs.Cells.{shown}
 use Rattle.marks.specs.Forms.{plain}
-use Rattle.srec_write.specs.Pieces.{dataText, countText}
+use Rattle.formats.specs.declared.Format.the-variants.{Records}
+use Rattle.data_lines.specs.Pieces.{dataText}
+use Rattle.srec_write.specs.Pieces.{countText}
 use Rattle.lists.proofs.PendingLaws.{Pending, pending-start, pending-room, pending-more, pending-end}
 use Rattle.srec_write.proofs.PieceLaws.{text-pieces, line-room, line-more}
 use Rattle.srec_write.proofs.put_text.Statement.{statement}
@@ -31,7 +33,7 @@ module _ (s : tie.Start) where
   from-count = countText (s .args .records) ++ (last ++ [])
 
   abbrev from-data : List ℕ
-  from-data = dataText (s .args .width) (shown window) ++ from-count
+  from-data = dataText Records (s .args .width) (shown window) ++ from-count
 
   abbrev whole : List ℕ
   whole = textOf srec window (s .args .header .now) (Present (s .args .entry))
@@ -70,14 +72,14 @@ after-header c =
     line-more (whole s) 48 2 0 (s .args .header .now) (from-data s) 0 0 (s .args .out .now) (s .args .out .now) (fits s) (at-start s)
     (c .put-line .result) (c .put-line .last .0) (c .put-line .ensures .0) (c .put-line .ensures .1) (c .put-line .kept .0)
 
-after-data : (c : tie.After-put-cells) → Left (behind-data c) (from-count (behind-data c)) (c .put-cells .result) (c .put-cells .last .0)
+after-data : (c : tie.After-put-cells) → Left (behind-data c) (from-count (behind-data c)) (c .put-cells .result) (c .put-cells .last .1 .0)
 after-data c =
     let at-put-line = c .before .before .before .before in
     let s = behind-data c in
     let p = at-put-line .put-line in
-    pending-more (whole s) (dataText (s .args .width) (shown (window s))) (from-count s) 0 (p .result) (c .put-cells .result)
-    (s .args .out .now) (p .last .0) (c .put-cells .last .0)
-    (fits s) (after-header at-put-line) (c .put-cells .ensures .0) (c .put-cells .ensures .1) (c .put-cells .kept .0)
+    pending-more (whole s) (dataText Records (s .args .width) (shown (window s))) (from-count s) 0 (p .result) (c .put-cells .result)
+    (s .args .out .now) (p .last .0) (c .put-cells .last .1 .0)
+    (fits s) (after-header at-put-line) (c .put-cells .ensures .0) (c .put-cells .ensures .1) (c .put-cells .kept .1 .0)
 
 after-count : (c : tie.After-put-count) → Left (behind-count c) (last (behind-count c) ++ []) (c .put-count .result) (c .put-count .last .0)
 after-count c =
@@ -85,7 +87,7 @@ after-count c =
     let s = behind-count c in
     let p = at-put-cells .put-cells in
     pending-more (whole s) (countText (s .args .records)) (last s ++ []) 0 (p .result) (c .put-count .result) (s .args .out .now)
-    (p .last .0) (c .put-count .last .0)
+    (p .last .1 .0) (c .put-count .last .0)
     (fits s) (after-data at-put-cells) (c .put-count .ensures .0) (c .put-count .ensures .1) (c .put-count .kept .0)
 
 after-last : (c : tie.After-put-line2) → Left (behind-last c) [] (c .put-line2 .result) (c .put-line2 .last .0)
@@ -110,7 +112,7 @@ put-cells-requires c κs =
     let s = behind-header at-put-line in
     let p = at-put-line .put-line in (
       (narrow s, s .pre .0 .0, s .pre .0 .1),
-      pending-room (whole s) (dataText (s .args .width) (shown (window s))) (from-count s) 0 (p .result) (s .args .out .now) (p .last .0)
+      pending-room (whole s) (dataText Records (s .args .width) (shown (window s))) (from-count s) 0 (p .result) (s .args .out .now) (p .last .0)
           (fits s) (after-header at-put-line),
     )
 
@@ -119,7 +121,7 @@ put-count-requires c κs =
     let at-put-cells = c .before .before .before in
     let s = behind-data at-put-cells in
     let p = at-put-cells .put-cells in
-    pending-room (whole s) (countText (s .args .records)) (last s ++ []) 0 (p .result) (s .args .out .now) (p .last .0) (fits s)
+    pending-room (whole s) (countText (s .args .records)) (last s ++ []) 0 (p .result) (s .args .out .now) (p .last .1 .0) (fits s)
     (after-data at-put-cells)
 
 sub-kind : tie.Need-sub-kind

@@ -11,12 +11,16 @@ use Rattle.window.specs.Windows.{row1, row16, windowOf}
 use Rattle.window.specs.Plans.{refusal}
 use Rattle.window.specs.Cells.{shown}
 use Rattle.text.specs.Write.{textOf}
+use Rattle.text.proofs.WriteLaws.{Call, row-1, is-allowed, fits, declines, accepts}
 use Rattle.srec.specs.Canonical.{widthFor}
 use Rattle.srec.specs.Formats.{srec}
 use Rattle.srec.proofs.FitLaws.{width-is}
-use Rattle.srec_size.specs.declared.Size.{Size}
-use Rattle.srec_size.specs.Sizes.{sizeOf}
-use Rattle.srec_write.proofs.WriteLaws.{Call, need-is, row-1, is-allowed, fits, row-15, row-16, no-bad, row-18, row-17, is-written, declines, accepts}
+use Rattle.formats.specs.declared.Format.the-variants.{Records}
+use Rattle.marks.specs.declared.Form.the-variants.{Bytes}
+use Rattle.marks.proofs.FormLaws.{bad-at, no-bad}
+use Rattle.size.specs.declared.Size.{Size}
+use Rattle.size.specs.Sizes.{sizeOf}
+use Rattle.srec_write.proofs.RecordRowLaws.{need-is, row-15, row-16, row-18, row-17, is-written}
 use borrow.Author.Needs.{needs}
 use Rattle.srec_write.proofs.write.Statement.{statement}
 use Rattle.srec_write.proofs.write.Tie as tie
@@ -48,20 +52,19 @@ allowed c = is-allowed (given (c .before)) (c .before .is-allowed .ensures) (not
 
 none : (c : tie.After-enum-told) → row16 (asked c .window .marks) ≡ false
 none c =
-    let e = behind-16 c in
-    no-bad (asked c) (allowed (e .before)) (e .if2 .left) (sym (c .enum-told .given .1) ∙ c .before .before .first-bad .ensures)
+    no-bad Bytes (length (asked c .window .memory)) (asked c .window .marks) (sym (c .enum-told .given .1) ∙ c .before .before .first-bad .ensures)
 
 returns : tie.Need-returns
 returns c =
     let s = c .before .before in
-    declines (given s) (refusal 1 0 0) (c .refused .result) (out s)
-    (row-1 (given s) (s .is-allowed .ensures) (not-true _ (c .before .if1 .taken))) (c .refused .ensures)
+    declines srec (given s) (refusal 1 0 0) (c .refused-write .result) (out s)
+    (row-1 srec (given s) (s .is-allowed .ensures) (not-true _ (c .before .if1 .taken))) (c .refused-write .ensures)
 
 returns-2 : tie.Need-returns-2
 returns-2 c =
     let e = c .before .before in
     let s = e .before in
-    declines (given s) (refusal 15 0 0) (c .refused2 .result) (out s) (row-15 (given s) (allowed e) (c .before .if2 .taken)) (c .refused2 .ensures)
+    declines srec (given s) (refusal 15 0 0) (c .refused-write2 .result) (out s) (row-15 (given s) (allowed e) (c .before .if2 .taken)) (c .refused-write2 .ensures)
 
 first-bad-requires : tie.Need-first-bad-requires
 first-bad-requires c κs = fits (given (c .before .before)) (allowed (c .before)) .0
@@ -73,15 +76,17 @@ returns-3 c =
     let e = at-first .before in
     let s = e .before .before in
     let place = at-bad .bad .given .0 .0 in
-    declines (given s) (refusal 16 0 place) (c .refused3 .result) (out s)
-    (row-16 (given s) (allowed (e .before)) (e .if2 .left) place (sym (at-bad .bad .given .1) ∙ at-first .first-bad .ensures)) (c .refused3 .ensures)
+    declines srec (given s) (refusal 16 0 place) (c .refused-write3 .result) (out s)
+    (row-16 (given s) (allowed (e .before)) (e .if2 .left) place
+    (bad-at Bytes (length (given s .window .memory)) (given s .window .marks) place (sym (at-bad .bad .given .1) ∙ at-first .first-bad .ensures)))
+    (c .refused-write3 .ensures)
 
 returns-4 : tie.Need-returns-4
 returns-4 c =
     let at-told = c .before .before .before in
     let e = behind-16 at-told in
-    declines (asked at-told) (refusal 18 0 0) (c .refused4 .result) (out (e .before .before))
-    (row-18 (asked at-told) (allowed (e .before)) (e .if2 .left) (none at-told) (c .before .enum-told2 .given .1)) (c .refused4 .ensures)
+    declines srec (asked at-told) (refusal 18 0 0) (c .refused-write4 .result) (out (e .before .before))
+    (row-18 (asked at-told) (allowed (e .before)) (e .if2 .left) (none at-told) (c .before .enum-told2 .given .1)) (c .refused-write4 .ensures)
 
 -- the call and its entry, where an entry is there
 abbrev told : tie.After-entry → tie.After-enum-told
@@ -94,7 +99,7 @@ size-of-requires : tie.Need-size-of-requires
 size-of-requires c κs = let f = fits (asked (told (c .before))) (allowed (behind-16 (told (c .before)) .before)) in (f .1, f .0)
 
 -- the text's size and length are as measured
-sized : (c : tie.After-size-of) → c .size-of .result ≡ sizeOf (shown (asked (told (c .before .before)) .window)) (entry (c .before .before))
+sized : (c : tie.After-size-of) → c .size-of .result ≡ sizeOf Records (shown (asked (told (c .before .before)) .window)) (entry (c .before .before))
 sized c = c .size-of .ensures .0 (asked (told (c .before .before)) .window .memory) refl
 
 text-length-requires : tie.Need-text-length-requires
@@ -121,10 +126,10 @@ returns-5 c =
     let at-entry = with-entry at-length in
     let e = behind-16 (told at-entry) in
     let need = needed at-length in
-    declines (asked (told at-entry)) (refusal 17 0 (length (text at-entry))) (c .refused5 .result) (out (e .before .before))
+    declines srec (asked (told at-entry)) (refusal 17 0 (length (text at-entry))) (c .refused-write5 .result) (out (e .before .before))
     (row-17 (asked (told at-entry)) (allowed (e .before)) (e .if2 .left) (none (told at-entry)) (entry at-entry) (at-entry .entry .given .1)
     (omega (arith, need, c .before .if3 .taken)))
-    (rw need at (c .refused5 .ensures))
+    (rw need at (c .refused-write5 .ensures))
 
 put-text-requires : tie.Need-put-text-requires
 put-text-requires c κs =
@@ -152,11 +157,11 @@ returns-6 c =
     let at-entry = with-entry at-length in
     let e = behind-16 (told at-entry) in
     let need = needed at-length in
-    accepts (asked (told at-entry)) (text at-entry) (c .accepted .result) (out (e .before .before)) (at-put .put-text .last .0)
+    accepts srec (asked (told at-entry)) (text at-entry) (c .accepted-write .result) (out (e .before .before)) (at-put .put-text .last .0)
     (at-length .text-length .result)
     (is-written (asked (told at-entry)) (allowed (e .before)) (e .if2 .left) (none (told at-entry)) (entry at-entry)
     (at-entry .entry .given .1) (omega (arith, need, at-if3 .if3 .left)))
-    need (c .accepted .ensures) (at-put .put-text .ensures)
+    need (c .accepted-write .ensures) (at-put .put-text .ensures)
 
 pub write-spec : {M : Type 1} → statement M
 write-spec =

@@ -1,14 +1,13 @@
 -- `place_line` meets its contract: the last line stores nothing, and another stores its data at its address less the base.
 use mathlib.Core.Path.{_≡_, refl, sym, _∙_}
-use Prim.Native.Nat.{ℕ, _+_, _-_, _*_, _≤_}
+use Prim.Native.Nat.{ℕ, _+_, _*_, _≤_}
 use native.Mathlib.Omega.{arith}
 use mathlib.Core.List.{List}
-use lib.ListN.{length, take, drop}
-use Rattle.lists.proofs.PartLaws.{lent-length}
+use lib.ListN.{length}
 use Rattle.tape.specs.Reading.{lengthIn, addressIn, dataIn, read}
 use Rattle.tape.specs.Judging.{carried}
 use Rattle.tape_step.proofs.LineFieldLaws.{bs, length-at, address-at, LineGot}
-use Rattle.storing.proofs.DataLaws.{DataLine, digits-from, in-window, part-stored}
+use Rattle.storing.proofs.DataLaws.{DataLine, digits-from, in-window, data-stored}
 use Rattle.storing.proofs.LineLaws.{line-readable, last-stored, length-is, line-data}
 use borrow.Author.Needs.{needs}
 use Rattle.storing.proofs.place_line.Statement.{statement}
@@ -46,7 +45,7 @@ returns c =
 part-number-of-end : tie.Need-part-number-of-end
 part-number-of-end c = omega (arith, got (call (c .before)) .long)
 
--- where the address is known: what was counted, the data, and from where to store it
+-- where the address is known: what was counted, and the data
 abbrev counted : tie.After-number-of → tie.After-byte-of
 counted c = c .before .before .before
 
@@ -55,9 +54,6 @@ abbrev data-at : (c : tie.After-number-of) → let k = counted c in
 data-at c =
     let k = counted c in
     line-data (memory k) (chars k) (call k .args .base) (got (call k)) (λ z. c .before .before .if1 .left (count-at k ∙ z)) (call k .pre .1)
-
-abbrev from : tie.After-number-of → ℕ
-from c = c .number-of .result - call (counted c) .args .base
 
 address-is : (c : tie.After-number-of) → c .number-of .result ≡ addressIn (bs (chars (counted c)))
 address-is c = c .number-of .ensures ∙ address-at (chars (counted c))
@@ -73,35 +69,24 @@ window-at c =
     let w = in-window (memory k) (chars k) (call k .args .base) 7 (data-at c) (λ z. c .before .before .if1 .left (bytes-at c ∙ z)) in
     (omega (arith, address-is c, w .0), omega (arith, address-is c, bytes-at c, w .1))
 
-sub-from : tie.Need-sub-from
-sub-from c = omega (arith, window-at c .0)
+sub-place-data : tie.Need-sub-place-data
+sub-place-data c = omega (arith, window-at (c .before) .0)
 
-part-store-data-end : tie.Need-part-store-data-end
-part-store-data-end c = omega (arith, window-at c)
-
--- the part of memory that is lent has a byte for each data byte
-abbrev lent : tie.After-number-of → List ℕ
-lent c = let n = counted c .byte-of .result in take (from c + n - from c) (drop (from c) (memory (counted c)))
-
-lent-at : (c : tie.After-number-of) → length (lent c) ≡ length (dataIn (bs (chars (counted c))))
-lent-at c = lent-length (memory (counted c)) (from c) (counted c .byte-of .result) (omega (arith, window-at c)) ∙ bytes-at c
-
-store-data-requires : tie.Need-store-data-requires
-store-data-requires c κs =
-    let at-number-of = c .before in
-    let k = counted at-number-of in
+place-data-requires : tie.Need-place-data-requires
+place-data-requires c κs =
+    let k = counted (c .before) in
     let g = got (call k) in (
-      (call k .pre .0, omega (arith, g .long, lent-at at-number-of, length-is (memory k) (chars k) (call k .args .base) g)),
-      digits-from (chars k) 1 6 7 (2 * length (lent at-number-of)) refl (g .digits),
+      (call k .pre .0, omega (arith, g .long, count-at k), omega (arith, window-at (c .before))),
+      digits-from (chars k) 1 6 7 (2 * k .byte-of .result) refl (g .digits),
     )
 
 returns-2 : tie.Need-returns-2
 returns-2 c =
-    let at-store-data = c .before .before in
-    let at-number-of = at-store-data .before .before in
+    let at-place-data = c .before .before in
+    let at-number-of = at-place-data .before .before in
     let k = counted at-number-of in
-    part-stored (memory k) (chars k) (call k .args .base) 7 (data-at at-number-of) _ _ _ (address-is at-number-of) (bytes-at at-number-of)
-    (lent-at at-number-of) (at-store-data .store-data .ensures)
+    data-stored (memory k) (chars k) (call k .args .base) 7 (data-at at-number-of) _ _ _ (address-is at-number-of) (bytes-at at-number-of)
+    (at-place-data .place-data .ensures)
 
 pub place-line-spec : {M : Type 1} → statement M
 place-line-spec =
@@ -117,11 +102,7 @@ place-line-spec =
     part-number-of-end
     (λ c κs. search needs)
     (λ c. search needs)
-    sub-from
-    (λ c. search needs)
-    (λ c. search needs)
-    (λ c. search needs)
-    part-store-data-end
-    store-data-requires
+    sub-place-data
+    place-data-requires
     (λ c. search needs)
     returns-2)

@@ -1,29 +1,17 @@
 -- `place_record` meets its contract: a record without data stores nothing, and another stores its data at its address less the base.
 use mathlib.Core.Path.{_≡_, sym, _∙_, subst}
-use Prim.Native.Nat.{ℕ, _+_, _-_, _*_, _≤_}
+use Prim.Native.Nat.{_+_, _-_, _*_, _≤_}
 use native.Mathlib.Nat.{add-sub-cancel-left}
 use native.Mathlib.Omega.{arith}
-use mathlib.Core.List.{List}
 use mathlib.Core.Logic.{inl, inr}
-use lib.ListN.{length, take, drop}
-use Rattle.lists.proofs.PartLaws.{lent-length}
-use Rattle.storing.proofs.DataLaws.{digits-from, none-stored, in-window, part-stored}
+use lib.ListN.{length}
+use Rattle.storing.proofs.DataLaws.{digits-from, none-stored, in-window, data-stored}
 use Rattle.storing.proofs.StoreLaws.{readable, no-data, DataRecord, data-record, data-line}
 use borrow.Author.Needs.{needs}
 use Rattle.storing.proofs.place_record.Statement.{statement}
 use Rattle.storing.proofs.place_record.Tie as tie
 
--- the call, where the address is known, and from where to store how many bytes
-abbrev call : tie.After-number-of → tie.Start
-call c = c .before .before .before .before .before .before .before .before .before .before .before .before
-
-abbrev from : tie.After-number-of → ℕ
-from c = c .number-of .result - call c .args .base
-
-abbrev n : tie.After-number-of → ℕ
-n c = c .before .before .before .byte-of .result - (c .before .before .before .before .before .before .width-of .result + 1)
-
--- the same where the width is known, and where that is from behind the count
+-- the call where the width is known, and where that is from behind the count
 abbrev own : tie.After-width-of → tie.Start
 own c = c .before .before .before .before .before .before
 
@@ -77,40 +65,33 @@ returns-3 c =
 part-number-of-end : tie.Need-part-number-of-end
 part-number-of-end c = omega (arith, data-at (c .before .before .before .before) .fields .long)
 
-sub-from : tie.Need-sub-from
-sub-from c = omega (arith, address-at c, window-at (c .before .before) .0)
+sub-place-data : tie.Need-sub-place-data
+sub-place-data c = omega (arith, address-at (c .before), window-at (c .before .before .before) .0)
 
-part-store-data-end : tie.Need-part-store-data-end
-part-store-data-end c = omega (arith, address-at c, count-at (c .before .before .before), window-at (c .before .before))
-
--- the part of memory that is lent has a byte for each data byte
-abbrev lent : tie.After-number-of → List ℕ
-lent c = take (from c + n c - from c) (drop (from c) (call c .args .memory .now))
-
-lent-at : (c : tie.After-number-of) → length (lent c) ≡ length (data-at (c .before .before .before .before .before .before) .ds)
-lent-at c =
-    lent-length _ (from c) (n c) (omega (arith, address-at c, count-at (c .before .before .before), window-at (c .before .before)))
-    ∙ count-at (c .before .before .before)
-
-store-data-requires : tie.Need-store-data-requires
-store-data-requires c κs =
+place-data-requires : tie.Need-place-data-requires
+place-data-requires c κs =
     let at-number-of = c .before in
-    let at-width-of = at-number-of .before .before .before .before .before .before in
-    let own = data-at at-width-of in
-    let w = at-width-of .width-of .result in (
-      (search needs, omega (arith, own .fields .long, lent-at at-number-of)),
-      digits-from (call at-number-of .args .chars .now) 2 (2 + 2 * w) (4 + 2 * w) (2 * length (lent at-number-of)) (omega arith)
-          (own .fields .digits),
+    let at-byte-of = at-number-of .before .before .before in
+    let at-width-of = typed at-byte-of in
+    let f = data-at at-width-of .fields in
+    let w = at-width-of .width-of .result in
+    let n = at-byte-of .byte-of .result - (w + 1) in (
+      (
+        search needs,
+        omega (arith, f .long, count-at at-byte-of),
+        omega (arith, address-at at-number-of, count-at at-byte-of, window-at (at-number-of .before .before)),
+      ),
+      digits-from (own at-width-of .args .chars .now) 2 (2 + 2 * w) (4 + 2 * w) (2 * n) (omega arith) (f .digits),
     )
 
 returns-4 : tie.Need-returns-4
 returns-4 c =
-    let at-store-data = c .before .before in
-    let at-number-of = at-store-data .before .before in
+    let at-place-data = c .before .before in
+    let at-number-of = at-place-data .before .before in
     let at-byte-of = at-number-of .before .before .before in
-    part-stored (call at-number-of .args .memory .now) _ _ _ (data-line (data-at (at-byte-of .before .before .before))) _ _ _ (address-at at-number-of)
-    (count-at at-byte-of)
-    (lent-at at-number-of) (at-store-data .store-data .ensures)
+    let at-width-of = typed at-byte-of in
+    data-stored (own at-width-of .args .memory .now) _ _ _ (data-line (data-at at-width-of)) _ _ _ (address-at at-number-of)
+    (count-at at-byte-of) (at-place-data .place-data .ensures)
 
 pub place-record-spec : {M : Type 1} → statement M
 place-record-spec =
@@ -134,11 +115,7 @@ place-record-spec =
     part-number-of-end
     (λ c κs. search needs)
     (λ c. search needs)
-    sub-from
-    (λ c. search needs)
-    (λ c. search needs)
-    (λ c. search needs)
-    part-store-data-end
-    store-data-requires
+    sub-place-data
+    place-data-requires
     (λ c. search needs)
     returns-4)

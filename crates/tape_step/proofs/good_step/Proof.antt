@@ -7,7 +7,7 @@ use Rattle.tape_step.specs.declared.Line.{Line}
 use Rattle.tape_step.specs.declared.Line.the-variants.{Good}
 use Rattle.tape_step.specs.Answers.{CheckedIs}
 use Rattle.tape_step.proofs.LineFieldLaws.{LineGot, line-got}
-use Rattle.tape_step.proofs.LineStepLaws.{step-good}
+use Rattle.tape_step.proofs.LineStepLaws.{judge-fits, step-good}
 use Rattle.tape_step.proofs.LineGapLaws.{line-front}
 use borrow.Author.Needs.{needs}
 use Rattle.tape_step.proofs.good_step.Statement.{statement}
@@ -37,14 +37,7 @@ got-at : (c : tie.After-known-told) → LineGot (chars c) (address c) (len c)
 got-at c = line-got (chars c) 0 (address c) (len c) (checked-at c .0)
 
 judge-requires : tie.Need-judge-requires
-judge-requires c κs =
-    let s = call c in
-    let g = got-at c in (
-      omega (arith, s .pre .1 .0, g .long),
-      omega (arith, s .pre .1 .1, g .long),
-      omega (arith, s .pre .1 .2, g .long),
-      omega (arith, g .short, g .long),
-    )
+judge-requires c κs = let s = call c in judge-fits (s .args .place) (s .args .state) (chars c) (address c) (len c) (got-at c) (s .pre .1)
 
 returns-2 : tie.Need-returns-2
 returns-2 c =

@@ -11,7 +11,7 @@ use Rattle.tape.specs.Reading.{covered, checkIn}
 use Rattle.tape.specs.Judging.{checkOf}
 use Rattle.tape_step.specs.Answers.{refusing}
 use Rattle.tape_step.proofs.LineFieldLaws.{bs, covered-at, check-at, LineGot, line-got, check-by}
-use Rattle.tape_step.proofs.LineStepLaws.{step-bad, row-7, no-row-7, step-good}
+use Rattle.tape_step.proofs.LineStepLaws.{step-bad, judge-fits, row-7, no-row-7, step-good}
 use borrow.Author.Needs.{needs}
 use Rattle.tape_step.proofs.step_of.Statement.{statement}
 use Rattle.tape_step.proofs.step_of.Tie as tie
@@ -95,12 +95,7 @@ judge-requires : tie.Need-judge-requires
 judge-requires c κs =
     let k = known (c .before) in
     let s = call k in
-    let g = got-at k in (
-      omega (arith, s .pre .1 .0, g .long),
-      omega (arith, s .pre .1 .1, g .long),
-      omega (arith, s .pre .1 .2, g .long),
-      omega (arith, g .short, g .long),
-    )
+    judge-fits (s .args .place) (s .args .state) (chars k) _ _ (got-at k) (s .pre .1)
 
 returns-3 : tie.Need-returns-3
 returns-3 c =

@@ -1,0 +1,89 @@
+// What the writer has to know of a window before it writes: the runs of marked cells, how many there are, and the width.
+use formats::Format;
+use marks::Form;
+ghost use mathlib.Core.Path.{_≡_};
+ghost use mathlib.Core.List.{List};
+ghost use Prim.Native.Nat.{ℕ, suc, _+_, _^_, _≤_, max};
+ghost use lib.ListN.{length, drop};
+ghost use Rattle.window.specs.Windows.{windowOf};
+ghost use Rattle.window.specs.Cells.{shown};
+ghost use Rattle.window.specs.Walks.{runOn};
+ghost use Rattle.marks.specs.Forms.{flags, markBytes};
+ghost use Rattle.srec.specs.Canonical.{widthFor};
+ghost use Rattle.formats.specs.Choices.{followOf};
+ghost use Rattle.size.specs.Sizes.{sizeOf};
+
+// How many data lines and cells a text has, and its largest address, entry included.
+pub struct Size {
+    pub records: usize,
+    pub cells: usize,
+    pub largest: u32,
+}
+
+// The index behind the run that starts at `at`.
+pub fn run_end(
+    format: Format,
+    base: u32,
+    form: Form,
+    marks: &[u8],
+    cells: usize,
+    at: usize,
+) -> usize
+    requires { ⌜ (at ≤ cells) × (base + cells ≤ 2 ^ 32) × (length (now marks) ≡ markBytes form cells) ⌝ }
+    ensures { λ r. ⌜ r ≡ at + runOn (suc (followOf format (base + at))) (drop at (flags form cells (now (marks .entry)))) ⌝ }
+{
+    let most = formats::most_cells(format, base as usize + at);
+    marks::run_end(form, marks, cells, at, most)
+}
+
+// The larger of two addresses.
+fn larger(a: u32, b: u32) -> u32
+    ensures { λ r. ⌜ r ≡ max a b ⌝ }
+{
+    if a < b { b } else { a }
+}
+
+// The size of the text of a window of `cells` cells with these marks, whatever its memory holds.
+pub fn size_of(
+    format: Format,
+    base: u32,
+    form: Form,
+    marks: &[u8],
+    cells: usize,
+    entry: u32,
+) -> Size
+    requires { ⌜ (base + cells ≤ 2 ^ 32) × (length (now marks) ≡ markBytes form cells) ⌝ }
+    ensures { λ r. ⌜ ((memory : List ℕ) → length memory ≡ cells → r ≡ sizeOf format (shown (windowOf base memory (flags form cells (now (marks .entry))))) entry) ⌝ }
+    ensures { λ r. ⌜ (r .records ≤ r .cells) × (r .cells ≤ cells) ⌝ }
+{
+    let mut records: usize = 0;
+    let mut marked: usize = 0;
+    let mut largest = entry;
+    let mut i = marks::next_marked(form, marks, cells, 0);
+    while i < cells {
+        let j = run_end(format, base, form, marks, cells, i);
+        records += 1;
+        marked += j - i;
+        largest = larger(largest, base + (j - 1) as u32);
+        i = marks::next_marked(form, marks, cells, j);
+    }
+    Size {
+        records,
+        cells: marked,
+        largest,
+    }
+}
+
+// The address bytes that the largest address asks for, from its leading zeros.
+pub fn width_for(largest: u32) -> usize
+    ensures { λ r. ⌜ r ≡ widthFor largest ⌝ }
+{
+    let bits = 32 - u32::leading_zeros(largest);
+    if bits <= 16 {
+        2
+    } else if bits <= 24 {
+        3
+    } else {
+        4
+    }
+}
