@@ -5,6 +5,8 @@
 //! refusal; the seed decides the rest.
 
 mod draft;
+mod drawing;
+mod faults;
 mod faulty;
 mod large;
 mod odd;
@@ -13,8 +15,10 @@ mod valid;
 mod writes;
 
 use crate::random::Random;
+use crate::reading;
+pub use drawing::Drawing;
+use faults::Rows;
 pub use faulty::can_meet;
-use faulty::Rows;
 pub use large::{large_load_cases, large_write_cases};
 
 /// The arguments of a load, with memory and marks as they are before it.
@@ -72,97 +76,52 @@ pub const FULL: Limits = Limits {
 /// and never given.
 pub const LOAD_NUMBERS: [u32; 14] = [0, 1, 2, 3, 4, 5, 6, 7, 8, 10, 11, 12, 13, 14];
 
-/// What a load case is made for.
-enum Aim {
-    Accepted,
-    Row1,
-    /// Rows 2 to 13 that all apply to one record.
-    Faults(Rows),
-    Row14,
-    /// Whatever comes of it.
-    Open,
-}
-
-/// Of four cases in a row, one takes its turn through all refusals, one
-/// through all pairs of rows, one is accepted and one is open.
-fn aim(index: u64) -> Aim {
-    let turn = index / 4;
-    match index % 4 {
-        0 => match (turn % 15) as u32 {
-            // There is no row 9.
-            0 | 9 => Aim::Accepted,
-            1 => Aim::Row1,
-            14 => Aim::Row14,
-            row => Aim::Faults(Rows::of(&[row])),
-        },
-        1 => {
-            let pairs = faulty::pairs();
-            let (upper, lower) = pairs[(turn % pairs.len() as u64) as usize];
-            Aim::Faults(Rows::of(&[upper, lower]))
-        }
-        2 => Aim::Accepted,
-        _ => Aim::Open,
-    }
-}
+/// S-record texts.
+pub static RECORDS: Drawing = Drawing {
+    load: reading::load,
+    write: reading::write,
+    small: SMALL,
+    full: FULL,
+    numbers: &LOAD_NUMBERS,
+    can_meet,
+    rows_of_refused: reading::rows_of_refused_record,
+    format: &reading::SREC,
+    window: any_window,
+    lines: valid::finished,
+    join: draft::join,
+    faulty: faulty::faulty,
+    open,
+    unfit: &[(true, false), (true, false), (false, true), (true, true)],
+    characters: b"019AfS\r\n\0G",
+    separators: b"",
+    scrambled: b"SSS0001359AFaf\r\n\n\0\xFF",
+    write_rows: [1, 15, 16, 18, 17],
+    refused_write: writes::case,
+};
 
 /// The refusal number a load case must have by its making, where one is known.
 pub fn aimed_number(index: u64) -> Option<u32> {
-    match aim(index) {
-        Aim::Accepted => Some(0),
-        Aim::Row1 => Some(1),
-        Aim::Faults(rows) => Some(rows.first()),
-        Aim::Row14 => Some(14),
-        Aim::Open => None,
-    }
+    RECORDS.aimed_number(index)
 }
 
 pub fn load_case(seed: u64, index: u64, limits: Limits) -> LoadCase {
-    let aim = aim(index);
-    let mut random = Random::new(seed, index);
-    // A text that came out too long is drawn again.
-    loop {
-        let case = match aim {
-            Aim::Accepted => valid::accepted(&mut random, limits),
-            Aim::Row1 => odd::unfit_window(&mut random, limits),
-            Aim::Faults(rows) => faulty::faulty(&mut random, limits, rows),
-            Aim::Row14 => valid::unfinished(&mut random, limits),
-            Aim::Open => open(&mut random, limits),
-        };
-        if fits(&case.text, limits) {
-            return case;
-        }
-    }
+    RECORDS.load_case(seed, index, limits)
 }
 
-fn fits(text: &[u8], limits: Limits) -> bool {
-    let mut lines = text.split(|&c| c == b'\r' || c == b'\n');
-    let longest = lines.any(|line| line.len() >= 513);
-    text.len() <= limits.text || longest && text.len() <= limits.long_text
+pub fn write_case(seed: u64, index: u64, limits: Limits) -> WriteCase {
+    RECORDS.write_case(seed, index, limits)
 }
 
 fn open(random: &mut Random, limits: Limits) -> LoadCase {
     match random.below(9) {
-        0..=2 => odd::mutated(random, limits),
+        0..=2 => RECORDS.mutated(random, limits),
         3 | 4 => odd::at_edges(random, limits),
         5 => odd::fixed(random, limits),
-        6 => odd::scrambled(random, limits),
+        6 => RECORDS.scrambled(random, limits),
         // Row 6 has more causes than any other.
         7 => faulty::faulty(random, limits, Rows::of(&[6])),
-        _ => {
-            let rows = faulty::three_rows(random);
-            faulty::faulty(random, limits, rows)
-        }
+        _ => RECORDS.three_faults(random, limits),
     }
-}
-
-/// The refusal number a write case must have by its making.
-pub fn aimed_write_number(index: u64) -> u32 {
-    writes::aim(index).first().copied().unwrap_or(0)
-}
-
-pub fn write_case(seed: u64, index: u64, limits: Limits) -> WriteCase {
-    let mut random = Random::new(seed, index);
-    writes::case(&mut random, limits, &writes::aim(index))
 }
 
 /// Garbage for the window before the call.
@@ -191,11 +150,7 @@ const TOP: u64 = 1 << 32;
 
 /// An allowed window, often at an edge of a width.
 fn any_window(random: &mut Random, limits: Limits) -> (u64, u64) {
-    let length = match random.below(12) {
-        0 => 0,
-        1 => 1,
-        _ => random.between(2, limits.window as u64),
-    };
+    let length = any_length(random, limits);
     let edge = 1u64 << random.pick(&[16, 24, 32]);
     let base = match random.below(8) {
         0 => 0,
@@ -206,7 +161,19 @@ fn any_window(random: &mut Random, limits: Limits) -> (u64, u64) {
         5 => edge,
         _ => edge - random.below(length + 1),
     };
-    // A base of 2^32 does not exist, not even for an empty window.
+    window_at(base, length)
+}
+
+fn any_length(random: &mut Random, limits: Limits) -> u64 {
+    match random.below(12) {
+        0 => 0,
+        1 => 1,
+        _ => random.between(2, limits.window as u64),
+    }
+}
+
+/// A base of 2^32 does not exist, not even for an empty window.
+fn window_at(base: u64, length: u64) -> (u64, u64) {
     let base = base.min(TOP - length.max(1));
     (base, base + length)
 }

@@ -1,7 +1,10 @@
 //! The loader and the writer, in the plainest reading of the rules.
 //!
 //! Every row of the refusal table is a function named after its number, and
-//! `ROWS` holds those of one record in the order in which they are tried.
+//! `ROWS` holds those of one record in the order in which they are tried. What
+//! tapes share with S-records stands here, too; `Format` holds the rest.
+
+use std::ops::Range;
 
 /// The most data bytes a header can have.
 pub const HEADER_ROOM: usize = 252;
@@ -32,7 +35,7 @@ pub struct Loaded {
 }
 
 impl Loaded {
-    pub(crate) fn refused(number: u32, record: usize, place: usize, want: u8) -> Loaded {
+    fn refused(number: u32, record: usize, place: usize, want: u8) -> Loaded {
         Loaded {
             refusal: Refusal {
                 number,
@@ -64,6 +67,17 @@ pub type Writer = fn(u32, &[u8], &[u8], &[u8], Option<u32>, &mut [u8]) -> Writte
 
 /// Loads a text into the window from `base` on.
 pub fn load(text: &[u8], base: u32, memory: &mut [u8], marks: &mut [u8]) -> Loaded {
+    load_records(records, text, base, memory, marks)
+}
+
+/// The same for a text of any format, which `records` takes apart.
+pub(crate) fn load_records(
+    records: Records,
+    text: &[u8],
+    base: u32,
+    memory: &mut [u8],
+    marks: &mut [u8],
+) -> Loaded {
     // No answer depends on what the marks held before.
     marks.fill(0);
     if row_1(base, memory.len(), marks.len()) {
@@ -73,7 +87,7 @@ pub fn load(text: &[u8], base: u32, memory: &mut [u8], marks: &mut [u8]) -> Load
     for record in records(text) {
         if let Some(number) = reader.first_row(&record) {
             let place = place_of(number, &record);
-            let want = want_of(number, &record);
+            let want = (record.format.want)(number, &record);
             return Loaded::refused(number, reader.taken + 1, place, want);
         }
         reader.take(&record);
@@ -99,6 +113,11 @@ pub fn load(text: &[u8], base: u32, memory: &mut [u8], marks: &mut [u8]) -> Load
 /// none if no record is refused. The first of them is the refusal number.
 /// Rows 1 and 14 are about no record and left out.
 pub fn rows_of_refused_record(text: &[u8], base: u32, length: usize) -> Vec<u32> {
+    rows_of_refused(records, text, base, length)
+}
+
+/// The same for a text of any format.
+pub(crate) fn rows_of_refused(records: Records, text: &[u8], base: u32, length: usize) -> Vec<u32> {
     let mut reader = Reader::new(base, length);
     for record in records(text) {
         let rows = reader.all_rows(&record);
@@ -132,53 +151,98 @@ fn want_of(number: u32, record: &Record) -> u8 {
 }
 
 #[derive(Clone, Copy, PartialEq, Eq)]
-enum Role {
+pub(crate) enum Role {
     Header,
     Data,
     Count,
     Terminator,
 }
 
+/// What a format has of its own. In all of them a line is a few characters and
+/// then digits: a count, an address, data and a check.
+pub(crate) struct Format {
+    /// What stands between lines.
+    pub separates: fn(u8) -> bool,
+    /// The most characters of a line.
+    pub longest: usize,
+    /// How many of them stand before the digits.
+    pub lead: usize,
+    /// The bytes of the check.
+    pub check: usize,
+    /// The role of a line and its number of address bytes.
+    pub kind: fn(&Record) -> Option<(Role, usize)>,
+    /// The rows tried for each line, from the top.
+    pub rows: &'static [(u32, Row)],
+    /// What a refusal with this number tells of the right check.
+    pub want: fn(u32, &Record) -> u8,
+}
+
+pub(crate) static SREC: Format = Format {
+    separates: |c| c == b'\r' || c == b'\n',
+    longest: LONGEST,
+    lead: 2,
+    check: 1,
+    kind: kind_of,
+    rows: &ROWS,
+    want: want_of,
+};
+
 /// A line of the text that is not empty.
 ///
 /// The fields can be asked of any line: a digit that is missing or bad counts
-/// as zero, and the last byte pair as the checksum. So each row stands alone,
-/// and rows 4 to 6 turn away the lines where this would matter.
-struct Record<'a> {
+/// as zero, and the last byte pairs as the check. So each row stands alone, and
+/// rows 4 to 6 turn away the lines where this would matter.
+pub(crate) struct Record<'a> {
+    format: &'static Format,
     place: usize,
-    line: &'a [u8],
+    pub line: &'a [u8],
 }
 
-/// The longest stretches free of CR and LF.
+/// Takes a text apart into its lines.
+pub(crate) type Records = fn(&[u8]) -> Vec<Record<'_>>;
+
 fn records(text: &[u8]) -> Vec<Record<'_>> {
+    lines(&SREC, text)
+}
+
+/// The longest stretches free of what stands between lines.
+pub(crate) fn lines<'a>(format: &'static Format, text: &'a [u8]) -> Vec<Record<'a>> {
     let mut found = Vec::new();
     let mut place = 0;
-    for line in text.split(|&c| c == b'\r' || c == b'\n') {
+    for line in text.split(|&c| (format.separates)(c)) {
         if !line.is_empty() {
-            found.push(Record { place, line });
+            found.push(Record {
+                format,
+                place,
+                line,
+            });
         }
         place += line.len() + 1;
     }
     found
 }
 
+/// The type table.
+fn kind_of(record: &Record) -> Option<(Role, usize)> {
+    match record.line.get(1)? {
+        b'0' => Some((Role::Header, 2)),
+        b'1' => Some((Role::Data, 2)),
+        b'2' => Some((Role::Data, 3)),
+        b'3' => Some((Role::Data, 4)),
+        b'5' => Some((Role::Count, 2)),
+        b'7' => Some((Role::Terminator, 4)),
+        b'8' => Some((Role::Terminator, 3)),
+        b'9' => Some((Role::Terminator, 2)),
+        _ => None,
+    }
+}
+
 impl Record<'_> {
-    /// The type table: role and number of address bytes.
     fn kind(&self) -> Option<(Role, usize)> {
-        match self.line.get(1)? {
-            b'0' => Some((Role::Header, 2)),
-            b'1' => Some((Role::Data, 2)),
-            b'2' => Some((Role::Data, 3)),
-            b'3' => Some((Role::Data, 4)),
-            b'5' => Some((Role::Count, 2)),
-            b'7' => Some((Role::Terminator, 4)),
-            b'8' => Some((Role::Terminator, 3)),
-            b'9' => Some((Role::Terminator, 2)),
-            _ => None,
-        }
+        (self.format.kind)(self)
     }
 
-    fn is(&self, role: Role) -> bool {
+    pub fn is(&self, role: Role) -> bool {
         self.kind().is_some_and(|(own, _)| own == role)
     }
 
@@ -187,9 +251,9 @@ impl Record<'_> {
         self.kind().map_or(0, |(_, width)| width)
     }
 
-    /// The index of the first character from the third on that is no digit.
+    /// The index of the first character behind the lead that is no digit.
     fn bad_digit(&self) -> Option<usize> {
-        (2..self.line.len()).find(|&index| hex_value(self.line[index]).is_none())
+        (self.format.lead..self.line.len()).find(|&index| hex_value(self.line[index]).is_none())
     }
 
     fn digit(&self, index: usize) -> u8 {
@@ -198,13 +262,15 @@ impl Record<'_> {
     }
 
     /// Byte pair `index`, where pair 0 is the count.
-    fn byte(&self, index: usize) -> u8 {
-        16 * self.digit(2 + 2 * index) + self.digit(3 + 2 * index)
+    pub fn byte(&self, index: usize) -> u8 {
+        let first = self.format.lead + 2 * index;
+        16 * self.digit(first) + self.digit(first + 1)
     }
 
-    /// The index of the checksum's byte pair.
-    fn last(&self) -> usize {
-        (self.line.len() / 2).saturating_sub(2)
+    /// The index of the check's first byte pair.
+    pub fn last(&self) -> usize {
+        let digits = self.line.len().saturating_sub(self.format.lead);
+        (digits / 2).saturating_sub(self.format.check)
     }
 
     /// What the checksum must be by the count, address and data bytes.
@@ -213,9 +279,14 @@ impl Record<'_> {
         255 - summed.fold(0u8, |sum, byte| sum.wrapping_add(byte))
     }
 
-    fn address(&self) -> u64 {
-        let bytes = (1..=self.width()).map(|index| self.byte(index));
+    /// The number in the byte pairs.
+    pub fn number(&self, pairs: Range<usize>) -> u64 {
+        let bytes = pairs.map(|index| self.byte(index));
         bytes.fold(0, |value, byte| 256 * value + u64::from(byte))
+    }
+
+    pub fn address(&self) -> u64 {
+        self.number(1..1 + self.width())
     }
 
     fn data(&self) -> Vec<u8> {
@@ -229,7 +300,7 @@ impl Record<'_> {
     }
 }
 
-pub(crate) fn hex_value(character: u8) -> Option<u8> {
+fn hex_value(character: u8) -> Option<u8> {
     match character {
         b'0'..=b'9' => Some(character - b'0'),
         b'A'..=b'F' => Some(character - b'A' + 10),
@@ -239,16 +310,16 @@ pub(crate) fn hex_value(character: u8) -> Option<u8> {
 }
 
 /// What the records taken so far have said.
-struct Reader {
+pub(crate) struct Reader {
     base: u64,
     cells: Vec<Option<u8>>,
     header: Vec<u8>,
     taken: usize,
-    data_records: usize,
+    pub data_records: usize,
     entry: Option<u32>,
 }
 
-type Row = fn(&Reader, &Record) -> bool;
+pub(crate) type Row = fn(&Reader, &Record) -> bool;
 
 /// The rows tried for each record, from the top. Number 9 is reserved: no row
 /// gives it, as data records and terminators of all widths go together.
@@ -267,13 +338,13 @@ const ROWS: [(u32, Row); 11] = [
 ];
 
 /// The record stands after the terminator.
-fn row_2(reader: &Reader, _: &Record) -> bool {
+pub(crate) fn row_2(reader: &Reader, _: &Record) -> bool {
     reader.entry.is_some()
 }
 
-/// More than 514 characters.
-fn row_3(_: &Reader, record: &Record) -> bool {
-    record.line.len() > LONGEST
+/// More characters than a line can have.
+pub(crate) fn row_3(_: &Reader, record: &Record) -> bool {
+    record.line.len() > record.format.longest
 }
 
 /// Fewer than 4 characters, no `S`, or a type that is not in the table.
@@ -281,8 +352,8 @@ fn row_4(_: &Reader, record: &Record) -> bool {
     record.line.len() < 4 || record.line[0] != b'S' || record.kind().is_none()
 }
 
-/// A character from the third on is no hex digit.
-fn row_5(_: &Reader, record: &Record) -> bool {
+/// A character behind the lead is no hex digit.
+pub(crate) fn row_5(_: &Reader, record: &Record) -> bool {
     record.bad_digit().is_some()
 }
 
@@ -310,19 +381,19 @@ fn row_10(reader: &Reader, record: &Record) -> bool {
 }
 
 /// Address + data bytes passes what the record's own width can address.
-fn row_11(_: &Reader, record: &Record) -> bool {
+pub(crate) fn row_11(_: &Reader, record: &Record) -> bool {
     record.is(Role::Data) && record.end() > 1 << (8 * record.width())
 }
 
 /// Some data byte is addressed outside the window.
-fn row_12(reader: &Reader, record: &Record) -> bool {
+pub(crate) fn row_12(reader: &Reader, record: &Record) -> bool {
     let window_end = reader.base + reader.cells.len() as u64;
     let outside = record.address() < reader.base || record.end() > window_end;
     record.is(Role::Data) && !record.data().is_empty() && outside
 }
 
 /// Some cell was already addressed.
-fn row_13(reader: &Reader, record: &Record) -> bool {
+pub(crate) fn row_13(reader: &Reader, record: &Record) -> bool {
     let mut cells = record.address()..record.end();
     record.is(Role::Data) && cells.any(|address| reader.addressed(address))
 }
@@ -340,12 +411,14 @@ impl Reader {
     }
 
     fn first_row(&self, record: &Record) -> Option<u32> {
-        let found = ROWS.iter().find(|(_, applies)| applies(self, record));
+        let mut rows = record.format.rows.iter();
+        let found = rows.find(|(_, applies)| applies(self, record));
         found.map(|&(number, _)| number)
     }
 
     fn all_rows(&self, record: &Record) -> Vec<u32> {
-        let found = ROWS.iter().filter(|(_, applies)| applies(self, record));
+        let rows = record.format.rows.iter();
+        let found = rows.filter(|(_, applies)| applies(self, record));
         found.map(|&(number, _)| number).collect()
     }
 
@@ -396,29 +469,43 @@ pub fn write(
     entry: Option<u32>,
     out: &mut [u8],
 ) -> Written {
+    let rows = [
+        (1, row_1(base, memory.len(), marks.len()).then_some(0)),
+        (15, (header.len() > HEADER_ROOM).then_some(0)),
+        (16, row_16(marks)),
+        (18, entry.is_none().then_some(0)),
+    ];
+    let text = || canonical(base, memory, marks, header, entry.unwrap_or(0));
+    write_text(&rows, text, out)
+}
+
+/// The index of the first mark that is neither 0 nor 1.
+pub(crate) fn row_16(marks: &[u8]) -> Option<usize> {
+    marks.iter().position(|&mark| mark > 1)
+}
+
+/// Refuses by the first row that has a place, or by row 17 if there is no room
+/// for the text, and leaves the output as it was then. Else the text is written.
+pub(crate) fn write_text(
+    rows: &[(u32, Option<usize>)],
+    text: impl Fn() -> Vec<u8>,
+    out: &mut [u8],
+) -> Written {
     // No refusal of the writer is about a record.
     let refused = |number, place| Written {
         refusal: Refusal {
             number,
-            record: 0,
             place,
-            want: 0,
+            ..Refusal::default()
         },
         length: 0,
     };
-    if row_1(base, memory.len(), marks.len()) {
-        return refused(1, 0);
+    for &(number, place) in rows {
+        if let Some(place) = place {
+            return refused(number, place);
+        }
     }
-    if header.len() > HEADER_ROOM {
-        return refused(15, 0);
-    }
-    if let Some(index) = marks.iter().position(|&mark| mark > 1) {
-        return refused(16, index);
-    }
-    let Some(entry) = entry else {
-        return refused(18, 0);
-    };
-    let text = canonical(base, memory, marks, header, entry);
+    let text = text();
     if text.len() > out.len() {
         return refused(17, text.len());
     }
@@ -432,7 +519,8 @@ pub fn write(
 /// The canonical text, for an entry that is present and other arguments to
 /// which rows 1, 15 and 16 do not apply.
 pub fn canonical(base: u32, memory: &[u8], marks: &[u8], header: &[u8], entry: u32) -> Vec<u8> {
-    let rows = rows_of_cells(base, memory, marks);
+    // It is the address that counts here, not the index in the window.
+    let rows = rows_of_cells(base, memory, marks, |address, _| address % 16 != 0);
     let last_cell = rows
         .last()
         .map_or(0, |row| row.address + row.data.len() as u64 - 1);
@@ -455,20 +543,25 @@ pub fn canonical(base: u32, memory: &[u8], marks: &[u8], header: &[u8], entry: u
 }
 
 /// Consecutive cells that become one data record.
-struct CellRow {
-    address: u64,
-    data: Vec<u8>,
+pub(crate) struct CellRow {
+    pub address: u64,
+    pub data: Vec<u8>,
 }
 
-/// The longest runs of marked cells that cross no multiple of 16. It is the
-/// address that counts here, not the index in the window.
-fn rows_of_cells(base: u32, memory: &[u8], marks: &[u8]) -> Vec<CellRow> {
+/// The runs of marked cells, cut where a cell may not join the row before it,
+/// by its address and the length of that row.
+pub(crate) fn rows_of_cells(
+    base: u32,
+    memory: &[u8],
+    marks: &[u8],
+    joins: impl Fn(u64, usize) -> bool,
+) -> Vec<CellRow> {
     let mut rows: Vec<CellRow> = Vec::new();
     let mut in_run = false;
     for (address, (&byte, &mark)) in (u64::from(base)..).zip(memory.iter().zip(marks)) {
         if mark == 1 {
             match rows.last_mut() {
-                Some(row) if in_run && address % 16 != 0 => row.data.push(byte),
+                Some(row) if in_run && joins(address, row.data.len()) => row.data.push(byte),
                 _ => rows.push(CellRow {
                     address,
                     data: vec![byte],
@@ -486,10 +579,15 @@ fn put_record(text: &mut Vec<u8>, kind: u8, width: usize, address: u64, data: &[
     bytes.extend(data);
     let sum = bytes.iter().fold(0u8, |sum, &byte| sum.wrapping_add(byte));
     bytes.push(255 - sum);
-    text.extend([b'S', kind]);
+    put_line(text, &[b'S', kind], &bytes, b"\n");
+}
+
+/// The bytes as digits, with what stands before and behind them.
+pub(crate) fn put_line(text: &mut Vec<u8>, lead: &[u8], bytes: &[u8], end: &[u8]) {
+    text.extend(lead);
     for byte in bytes {
         text.push(b"0123456789ABCDEF"[usize::from(byte / 16)]);
         text.push(b"0123456789ABCDEF"[usize::from(byte % 16)]);
     }
-    text.push(b'\n');
+    text.extend(end);
 }

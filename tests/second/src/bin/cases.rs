@@ -1,8 +1,7 @@
 //! Prints small cases with their results, one line of JSON for each.
 
-use second::cases::{load_case, tapes, write_case, LoadCase, WriteCase, SMALL};
-use second::reading::{load, write, Loader, Writer};
-use second::tape::{load_tape, write_tape};
+use second::cases::tapes::TAPES;
+use second::cases::{Drawing, RECORDS};
 use std::io::{self, BufWriter, Write};
 use std::process::ExitCode;
 
@@ -31,14 +30,10 @@ fn parse(arguments: &[String]) -> Option<(Line, u64, u64)> {
         return None;
     };
     let line: Line = match side.as_str() {
-        "load" => |seed, index| load_line(&load_case(seed, index, SMALL), load),
-        "write" => |seed, index| write_line(&write_case(seed, index, SMALL), write),
-        "load-tape" => {
-            |seed, index| load_line(&tapes::load_case(seed, index, tapes::SMALL), load_tape)
-        }
-        "write-tape" => {
-            |seed, index| write_line(&tapes::write_case(seed, index, tapes::SMALL), write_tape)
-        }
+        "load" => |seed, index| load_line(&RECORDS, seed, index),
+        "write" => |seed, index| write_line(&RECORDS, seed, index),
+        "load-tape" => |seed, index| load_line(&TAPES, seed, index),
+        "write-tape" => |seed, index| write_line(&TAPES, seed, index),
         _ => return None,
     };
     Some((line, seed.parse().ok()?, count.parse().ok()?))
@@ -52,10 +47,11 @@ fn print(line: Line, seed: u64, count: u64) -> io::Result<()> {
     out.flush()
 }
 
-fn load_line(case: &LoadCase, load: Loader) -> String {
+fn load_line(drawing: &Drawing, seed: u64, index: u64) -> String {
+    let case = drawing.load_case(seed, index, drawing.small);
     let mut memory = case.memory.clone();
     let mut marks = case.marks.clone();
-    let loaded = load(&case.text, case.base, &mut memory, &mut marks);
+    let loaded = (drawing.load)(&case.text, case.base, &mut memory, &mut marks);
     object(&[
         ("text", array(&case.text)),
         ("base", case.base.to_string()),
@@ -74,9 +70,10 @@ fn load_line(case: &LoadCase, load: Loader) -> String {
     ])
 }
 
-fn write_line(case: &WriteCase, write: Writer) -> String {
+fn write_line(drawing: &Drawing, seed: u64, index: u64) -> String {
+    let case = drawing.write_case(seed, index, drawing.small);
     let mut out = vec![0; case.room];
-    let written = write(
+    let written = (drawing.write)(
         case.base,
         &case.memory,
         &case.marks,

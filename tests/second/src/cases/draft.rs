@@ -1,6 +1,8 @@
 //! Records in the making and how they become a text.
 
+use super::drawing;
 use crate::random::Random;
+use crate::reading::SREC;
 
 /// A record by its fields, so that each can be made wrong alone.
 #[derive(Clone)]
@@ -107,39 +109,9 @@ pub fn count_record(number: usize) -> Vec<u8> {
     Draft::new(b'5', number as u64, &[]).text()
 }
 
-/// Makes one text of the records, in one of the styles of line ends and digits.
-pub fn join(random: &mut Random, records: &[Vec<u8>]) -> Vec<u8> {
-    let ends: [&[u8]; 6] = [b"\n", b"\r", b"\r\n", b"\n\r", b"\n\n\n", b"\r\r\n\r"];
-    let mixed_ends = random.chance(1, 4);
-    let mut end = random.pick(&ends);
-    let lower_of_four = random.pick(&[0, 4, 2]);
-    let mut text = Vec::new();
-    if random.chance(1, 6) {
-        text.extend(end);
-    }
-    for (index, record) in records.iter().enumerate() {
-        if index > 0 {
-            text.extend(end);
-        }
-        put_digits(random, &mut text, record, lower_of_four);
-        if mixed_ends {
-            end = random.pick(&ends);
-        }
-    }
-    if random.chance(2, 3) {
-        text.extend(end);
-    }
-    text
-}
+/// What stands between records.
+const ENDS: [&[u8]; 6] = [b"\n", b"\r", b"\r\n", b"\n\r", b"\n\n\n", b"\r\r\n\r"];
 
-/// Only hex digits change case: the letter and the type are kept.
-fn put_digits(random: &mut Random, text: &mut Vec<u8>, record: &[u8], lower_of_four: u64) {
-    for (index, &character) in record.iter().enumerate() {
-        let digit = index >= 2 && (b'A'..=b'F').contains(&character);
-        if digit && random.chance(lower_of_four, 4) {
-            text.push(character.to_ascii_lowercase());
-        } else {
-            text.push(character);
-        }
-    }
+pub fn join(random: &mut Random, records: &[Vec<u8>]) -> Vec<u8> {
+    drawing::join(random, &SREC, (&ENDS, 4), records)
 }

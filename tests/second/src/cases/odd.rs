@@ -1,46 +1,8 @@
-//! Cases with no single fault in mind: edges, mutations, odd texts, and
-//! windows that are not allowed.
+//! Cases with no single fault in mind: edges and odd texts.
 
 use super::draft::{any_width, count_record, data_kind, end_kind, join, reach, terminator, Draft};
-use super::{any_window, contents, in_window, valid, Limits, LoadCase, TOP};
+use super::{any_window, in_window, Limits, LoadCase};
 use crate::random::Random;
-
-/// Row 1, whatever the text is.
-pub fn unfit_window(random: &mut Random, limits: Limits) -> LoadCase {
-    let mut case = if random.chance(1, 2) {
-        valid::accepted(random, limits)
-    } else {
-        mutated(random, limits)
-    };
-    match random.below(4) {
-        0 | 1 => pass_top(random, limits, &mut case),
-        2 => unequal_marks(random, limits, &mut case),
-        _ => {
-            pass_top(random, limits, &mut case);
-            unequal_marks(random, limits, &mut case);
-        }
-    }
-    case
-}
-
-/// A window that passes 2^32, often by one cell.
-pub fn pass_top(random: &mut Random, limits: Limits, case: &mut LoadCase) {
-    let length = random.size(2, limits.window);
-    let some = random.size(1, length - 1);
-    let past = random.pick(&[1, some]);
-    case.base = (TOP - length as u64) as u32 + past as u32;
-    case.memory = contents(random, length);
-    case.marks = contents(random, length);
-}
-
-/// Marks of another length than the memory.
-pub fn unequal_marks(random: &mut Random, limits: Limits, case: &mut LoadCase) {
-    let right = case.memory.len();
-    let any = random.size(0, limits.window);
-    let other = random.pick(&[0, right.saturating_sub(1), right + 1, any]);
-    let other = if other == right { right + 1 } else { other };
-    case.marks = contents(random, other);
-}
 
 /// Short records near the ends of the window and of the widths.
 pub fn at_edges(random: &mut Random, limits: Limits) -> LoadCase {
@@ -65,51 +27,6 @@ pub fn at_edges(random: &mut Random, limits: Limits) -> LoadCase {
     records.push(Draft::new(end_kind(width), near(width, random), &[]).text());
     let text = join(random, &records);
     in_window(random, text, (low, high))
-}
-
-/// An accepted text with one or two changes of a character or a stretch.
-pub fn mutated(random: &mut Random, limits: Limits) -> LoadCase {
-    let mut case = valid::accepted(random, limits);
-    for _ in 0..random.size(1, 2) {
-        mutate(random, &mut case.text);
-    }
-    case
-}
-
-fn mutate(random: &mut Random, text: &mut Vec<u8>) {
-    if text.is_empty() {
-        return;
-    }
-    let place = random.size(0, text.len() - 1);
-    match random.below(8) {
-        0 | 1 => text[place] = any_character(random),
-        2 | 3 => text.insert(place, any_character(random)),
-        4 => drop(text.remove(place)),
-        5 => text[place] ^= random.pick(&[0x01, 0x20, 0x80]),
-        6 => text.truncate(place),
-        _ => {
-            let end = random.size(place, text.len());
-            let stretch = text[place..end].to_vec();
-            text.extend(stretch);
-        }
-    }
-}
-
-fn any_character(random: &mut Random) -> u8 {
-    let any = random.byte();
-    random.pick(&[
-        b'0', b'1', b'9', b'A', b'f', b'S', b'\r', b'\n', 0, b'G', any,
-    ])
-}
-
-/// Characters of a few kinds in no order.
-pub fn scrambled(random: &mut Random, limits: Limits) -> LoadCase {
-    let window = any_window(random, limits);
-    let length = random.size(0, 40);
-    let text = (0..length)
-        .map(|_| random.pick(b"SSS0001359AFaf\r\n\n\0\xFF"))
-        .collect();
-    in_window(random, text, window)
 }
 
 const TEXTS: &[&[u8]] = &[

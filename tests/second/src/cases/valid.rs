@@ -1,31 +1,10 @@
-//! Texts that are accepted, and the same without their terminator.
+//! The records of texts that are accepted.
 
 use super::draft::{
-    any_width, count_record, data_kind, empty_record, join, most_data, reach, terminator, Draft,
+    any_width, count_record, data_kind, empty_record, most_data, reach, terminator, Draft,
 };
-use super::{any_window, in_window, Limits, LoadCase};
+use super::Limits;
 use crate::random::Random;
-
-/// A text in any style that fits its window.
-pub fn accepted(random: &mut Random, limits: Limits) -> LoadCase {
-    let window = any_window(random, limits);
-    let records = finished(random, limits, window);
-    let text = join(random, &records);
-    in_window(random, text, window)
-}
-
-/// A text that is right but for its missing terminator: row 14.
-pub fn unfinished(random: &mut Random, limits: Limits) -> LoadCase {
-    let window = any_window(random, limits);
-    let mut records = finished(random, limits, window);
-    records.pop();
-    let text = match random.below(8) {
-        0 => Vec::new(),
-        1 => join(random, &[Vec::new(), Vec::new()]),
-        _ => join(random, &records),
-    };
-    in_window(random, text, window)
-}
 
 /// A width, mostly one that reaches into the window.
 fn fitting_width(random: &mut Random, (low, _): (u64, u64)) -> usize {
@@ -48,7 +27,7 @@ fn reaching_width(random: &mut Random, end: u64) -> usize {
 }
 
 /// Header, data and count records with the terminator last.
-fn finished(random: &mut Random, limits: Limits, window: (u64, u64)) -> Vec<Vec<u8>> {
+pub fn finished(random: &mut Random, limits: Limits, window: (u64, u64)) -> Vec<Vec<u8>> {
     // One width for all data, or any for each record.
     let one_width = fitting_width(random, window);
     let width = random.chance(1, 3).then_some(one_width);

@@ -4,20 +4,6 @@ use super::{any_window, Limits, WriteCase, TOP};
 use crate::random::Random;
 use crate::reading::canonical;
 
-/// The refusals of the writer in the order in which they are tried.
-const ROWS: [u32; 5] = [1, 15, 16, 18, 17];
-
-/// The rows a case is made for: each alone or none in turn, then every set.
-pub fn aim(index: u64) -> Vec<u32> {
-    let turn = index / 2;
-    if index.is_multiple_of(2) {
-        return ROWS.get((turn % 6) as usize).copied().into_iter().collect();
-    }
-    let chosen = |&(bit, _): &(usize, u32)| (turn % 32) & (1 << bit) != 0;
-    let numbered = ROWS.into_iter().enumerate();
-    numbered.filter(chosen).map(|(_, row)| row).collect()
-}
-
 /// A case to which exactly the given rows apply.
 pub fn case(random: &mut Random, limits: Limits, rows: &[u32]) -> WriteCase {
     let (low, high) = any_window(random, limits);
@@ -36,13 +22,8 @@ pub fn case(random: &mut Random, limits: Limits, rows: &[u32]) -> WriteCase {
         entry: entry(random, rows.contains(&18)),
         room: 0,
     };
-    if rows.contains(&16) {
-        spoil_marks(random, &mut case.marks);
-    }
-    if rows.contains(&1) {
-        spoil_window(random, &mut case, rows.contains(&16));
-    }
-    case.room = room(random, &case, rows);
+    spoil(random, &mut case, rows);
+    case.room = room(random, needed(&case, rows), rows);
     case
 }
 
@@ -99,6 +80,16 @@ fn entry(random: &mut Random, absent: bool) -> Option<u32> {
     (!absent).then_some(entry)
 }
 
+/// Makes the marks wrong for row 16 and the window for row 1.
+pub fn spoil(random: &mut Random, case: &mut WriteCase, rows: &[u32]) {
+    if rows.contains(&16) {
+        spoil_marks(random, &mut case.marks);
+    }
+    if rows.contains(&1) {
+        spoil_window(random, case, rows.contains(&16));
+    }
+}
+
 /// One mark above 1, and sometimes another after it.
 fn spoil_marks(random: &mut Random, marks: &mut [u8]) {
     let last = marks.len() - 1;
@@ -122,10 +113,10 @@ fn spoil_window(random: &mut Random, case: &mut WriteCase, keep_marks: bool) {
     }
 }
 
-/// Room enough, often just enough, or too little for row 17.
-fn room(random: &mut Random, case: &WriteCase, rows: &[u32]) -> usize {
+/// The length of the text.
+fn needed(case: &WriteCase, rows: &[u32]) -> usize {
     let (memory, marks) = (&case.memory, &case.marks);
-    let needed = match case.entry {
+    match case.entry {
         Some(entry) if rows.iter().all(|&row| row == 17) => {
             canonical(case.base, memory, marks, &case.header, entry).len()
         }
@@ -133,7 +124,11 @@ fn room(random: &mut Random, case: &WriteCase, rows: &[u32]) -> usize {
         // and each cell makes at most one record of 17.
         _ if rows.contains(&17) => 33,
         _ => 700 + 17 * memory.len(),
-    };
+    }
+}
+
+/// Room enough, often just enough, or too little for row 17.
+pub fn room(random: &mut Random, needed: usize, rows: &[u32]) -> usize {
     if rows.contains(&17) {
         let less = random.size(0, needed - 1);
         random.pick(&[needed - 1, needed - 1, 0, less])

@@ -1,6 +1,8 @@
 //! Lines in the making and how they become a tape.
 
+use super::super::drawing;
 use crate::random::Random;
+use crate::tape::TAPE;
 
 /// A line by its fields, so that each can be made wrong alone.
 #[derive(Clone)]
@@ -72,41 +74,10 @@ const ENDS: [&[u8]; 10] = [
     b"\0\x13\n\r\0",
 ];
 
-/// Makes one tape of the lines, in one of the styles of separators and digits.
 pub fn join(random: &mut Random, lines: &[Vec<u8>]) -> Vec<u8> {
-    let mixed_ends = random.chance(1, 3);
-    let mut end = random.pick(&ENDS);
-    let lower_of_four = random.pick(&[0, 4, 2]);
-    let mut text = Vec::new();
-    if random.chance(1, 6) {
-        text.extend(end);
-    }
-    for (index, line) in lines.iter().enumerate() {
-        if index > 0 {
-            text.extend(end);
-        }
-        put_digits(random, &mut text, line, lower_of_four);
-        if mixed_ends {
-            end = random.pick(&ENDS);
-        }
-    }
-    if random.chance(2, 3) {
-        text.extend(end);
-    }
+    let mut text = drawing::join(random, &TAPE, (&ENDS, 3), lines);
     if random.chance(1, 4) {
         text.push(0x13);
     }
     text
-}
-
-/// Only hex digits change case.
-fn put_digits(random: &mut Random, text: &mut Vec<u8>, line: &[u8], lower_of_four: u64) {
-    for (index, &character) in line.iter().enumerate() {
-        let digit = index >= 1 && (b'A'..=b'F').contains(&character);
-        if digit && random.chance(lower_of_four, 4) {
-            text.push(character.to_ascii_lowercase());
-        } else {
-            text.push(character);
-        }
-    }
 }

@@ -1,28 +1,9 @@
-//! Cases with no single fault in mind: edges, mutations, odd tapes, and
-//! windows that are not allowed.
+//! Cases with no single fault in mind: edges and odd tapes.
 
-use super::super::odd::{pass_top, unequal_marks};
 use super::super::{in_window, Limits, LoadCase};
 use super::draft::{join, last_line, Draft};
 use super::{any_window, valid, REACH};
 use crate::random::Random;
-
-/// Row 1, whatever the tape is.
-pub fn unfit_window(random: &mut Random, limits: Limits) -> LoadCase {
-    let mut case = if random.chance(1, 2) {
-        valid::accepted(random, limits)
-    } else {
-        mutated(random, limits)
-    };
-    let (top, marks) = random.pick(&[(true, false), (false, true), (true, true)]);
-    if top {
-        pass_top(random, limits, &mut case);
-    }
-    if marks {
-        unequal_marks(random, limits, &mut case);
-    }
-    case
-}
 
 /// Short lines near the ends of the window and of the addresses.
 pub fn at_edges(random: &mut Random, limits: Limits) -> LoadCase {
@@ -38,53 +19,6 @@ pub fn at_edges(random: &mut Random, limits: Limits) -> LoadCase {
     lines.push(last_line(lines.len()));
     let text = join(random, &lines);
     in_window(random, text, (low, high))
-}
-
-/// An accepted tape with one or two changes of a character or a stretch.
-pub fn mutated(random: &mut Random, limits: Limits) -> LoadCase {
-    let mut case = valid::accepted(random, limits);
-    for _ in 0..random.size(1, 2) {
-        mutate(random, &mut case.text);
-    }
-    case
-}
-
-fn mutate(random: &mut Random, text: &mut Vec<u8>) {
-    if text.is_empty() {
-        return;
-    }
-    let place = random.size(0, text.len() - 1);
-    match random.below(9) {
-        0 | 1 => text[place] = any_character(random),
-        2 | 3 => text.insert(place, any_character(random)),
-        4 => drop(text.remove(place)),
-        5 => text[place] ^= random.pick(&[0x01, 0x20, 0x80]),
-        6 => text.truncate(place),
-        // A separator inside a line, or one more between two.
-        7 => text.insert(place, random.pick(b"\0\0\x13\x13\r\n")),
-        _ => {
-            let end = random.size(place, text.len());
-            let stretch = text[place..end].to_vec();
-            text.extend(stretch);
-        }
-    }
-}
-
-fn any_character(random: &mut Random) -> u8 {
-    let any = random.byte();
-    random.pick(&[
-        b'0', b'1', b'9', b'A', b'f', b';', b'\r', b'\n', 0, 0x13, b'G', any,
-    ])
-}
-
-/// Characters of a few kinds in no order.
-pub fn scrambled(random: &mut Random, limits: Limits) -> LoadCase {
-    let window = any_window(random, limits);
-    let length = random.size(0, 40);
-    let text = (0..length)
-        .map(|_| random.pick(b";;;;0000139AFaf\r\n\0\x13\xFF"))
-        .collect();
-    in_window(random, text, window)
 }
 
 const TAPES: &[&[u8]] = &[

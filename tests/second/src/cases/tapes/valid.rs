@@ -1,33 +1,12 @@
-//! Tapes that are accepted, and the same without their last line.
+//! The lines of tapes that are accepted.
 
-use super::super::{in_window, Limits, LoadCase};
-use super::draft::{join, last_line, Draft};
-use super::{any_window, REACH};
+use super::super::Limits;
+use super::draft::{last_line, Draft};
+use super::REACH;
 use crate::random::Random;
 
-/// A tape in any style that fits its window.
-pub fn accepted(random: &mut Random, limits: Limits) -> LoadCase {
-    let window = any_window(random, limits);
-    let lines = finished(random, limits, window);
-    let text = join(random, &lines);
-    in_window(random, text, window)
-}
-
-/// A tape that is right but for its missing last line: row 14.
-pub fn unfinished(random: &mut Random, limits: Limits) -> LoadCase {
-    let window = any_window(random, limits);
-    let mut lines = finished(random, limits, window);
-    lines.pop();
-    let text = match random.below(8) {
-        0 => Vec::new(),
-        1 => join(random, &[Vec::new(), Vec::new()]),
-        _ => join(random, &lines),
-    };
-    in_window(random, text, window)
-}
-
 /// Data lines in any order, and the last line.
-fn finished(random: &mut Random, limits: Limits, window: (u64, u64)) -> Vec<Vec<u8>> {
+pub fn finished(random: &mut Random, limits: Limits, window: (u64, u64)) -> Vec<Vec<u8>> {
     let cells = (window.0, window.1.min(REACH).max(window.0));
     let mut lines = if random.chance(1, 8) && cells.1 - cells.0 >= 255 {
         one_cell_lines(random, cells)

@@ -1,23 +1,10 @@
 //! Cases for the writer of tapes.
 
+use super::super::writes::{room, spoil};
 use super::super::{Limits, WriteCase, TOP};
 use super::{any_window, REACH};
 use crate::random::Random;
 use crate::tape::canonical_tape;
-
-/// The refusals of the writer in the order in which they are tried.
-const ROWS: [u32; 5] = [1, 16, 19, 11, 17];
-
-/// The rows a case is made for: each alone or none in turn, then every set.
-pub fn aim(index: u64) -> Vec<u32> {
-    let turn = index / 2;
-    if index.is_multiple_of(2) {
-        return ROWS.get((turn % 6) as usize).copied().into_iter().collect();
-    }
-    let chosen = |&(bit, _): &(usize, u32)| (turn % 32) & (1 << bit) != 0;
-    let numbered = ROWS.into_iter().enumerate();
-    numbered.filter(chosen).map(|(_, row)| row).collect()
-}
 
 /// A case to which the given rows apply, and none above them.
 pub fn case(random: &mut Random, limits: Limits, rows: &[u32]) -> WriteCase {
@@ -33,13 +20,8 @@ pub fn case(random: &mut Random, limits: Limits, rows: &[u32]) -> WriteCase {
         room: 0,
     };
     mark_above(random, &mut case, rows.contains(&11));
-    if rows.contains(&16) {
-        spoil_marks(random, &mut case.marks);
-    }
-    if rows.contains(&1) {
-        spoil_window(random, &mut case, rows.contains(&16));
-    }
-    case.room = room(random, &case, rows);
+    spoil(random, &mut case, rows);
+    case.room = room(random, needed(&case, rows), rows);
     case
 }
 
@@ -118,33 +100,10 @@ fn header_and_entry(random: &mut Random, wanted: bool) -> (Vec<u8>, Option<u32>)
     }
 }
 
-/// One mark above 1, and sometimes another after it.
-fn spoil_marks(random: &mut Random, marks: &mut [u8]) {
-    let last = marks.len() - 1;
-    let some = random.size(0, last);
-    let first = random.pick(&[0, last, some]);
-    for index in [first, random.size(first, last)] {
-        marks[index] = random.pick(&[2, 3, 0x31, 0x80, 0xFF]);
-    }
-}
-
-/// Marks of another length, or a window that passes 2^32.
-fn spoil_window(random: &mut Random, case: &mut WriteCase, keep_marks: bool) {
-    let length = case.memory.len();
-    if length > 1 && random.chance(1, 2) {
-        let past = random.size(1, length - 1);
-        case.base = (TOP - length as u64) as u32 + random.pick(&[1, past as u32]);
-    } else if length > 0 && !keep_marks && random.chance(1, 2) {
-        case.marks.pop();
-    } else {
-        case.marks.push(random.pick(&[0, 1]));
-    }
-}
-
-/// Room enough, often just enough, or too little for row 17.
-fn room(random: &mut Random, case: &WriteCase, rows: &[u32]) -> usize {
+/// The length of the tape.
+fn needed(case: &WriteCase, rows: &[u32]) -> usize {
     let (memory, marks) = (&case.memory, &case.marks);
-    let needed = if rows.iter().all(|&row| row == 17 || row == 19) {
+    if rows.iter().all(|&row| row == 17 || row == 19) {
         canonical_tape(case.base, memory, marks).len()
     } else if rows.contains(&17) {
         // There is no tape to measure. The shortest of all has 13 characters,
@@ -152,12 +111,5 @@ fn room(random: &mut Random, case: &WriteCase, rows: &[u32]) -> usize {
         13
     } else {
         13 + 15 * memory.len()
-    };
-    if rows.contains(&17) {
-        let less = random.size(0, needed - 1);
-        random.pick(&[needed - 1, needed - 1, 0, less])
-    } else {
-        let more = needed + random.size(1, 99);
-        random.pick(&[needed, needed, needed + 1, more])
     }
 }

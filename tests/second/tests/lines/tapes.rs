@@ -1,33 +1,17 @@
-//! Tapes, with the answers worked out by hand from the rules.
+//! Tapes.
 
-use second::reading::{Loaded, Refusal, Written};
+use super::{unequal_marks_are_refused, unwritten, Outcome};
+use second::reading::Refusal;
 use second::tape::{canonical_tape, load_tape, write_tape};
 
-struct Outcome {
-    loaded: Loaded,
-    memory: Vec<u8>,
-    marks: Vec<u8>,
-}
-
-/// Loads into a memory of 0xEE with marks of 7.
 #[track_caller]
 fn load_at(text: &str, base: u32, length: usize) -> Outcome {
-    let mut memory = vec![0xEE; length];
-    let mut marks = vec![7; length];
-    let loaded = load_tape(text.as_bytes(), base, &mut memory, &mut marks);
+    let outcome = super::load_at(load_tape, text, base, length);
     // Also in an accepted one, and no right check is told in row 7.
+    let loaded = &outcome.loaded;
     assert_eq!((loaded.header_len, loaded.header), (0, [0; 252]));
     assert_eq!((loaded.entry, loaded.refusal.want), (None, 0));
-    if loaded.refusal.number != 0 {
-        assert!(memory.iter().all(|&byte| byte == 0xEE));
-        assert!(marks.iter().all(|&mark| mark == 0));
-        assert_eq!((loaded.records, loaded.cells), (0, 0));
-    }
-    Outcome {
-        loaded,
-        memory,
-        marks,
-    }
+    outcome
 }
 
 /// Number, record and place of a load into 1,024 cells from 0 on.
@@ -38,8 +22,7 @@ fn refusal(text: &str) -> (u32, usize, usize) {
 
 #[track_caller]
 fn refusal_at(text: &str, base: u32, length: usize) -> (u32, usize, usize) {
-    let refusal = load_at(text, base, length).loaded.refusal;
-    (refusal.number, refusal.record, refusal.place)
+    load_at(text, base, length).refusal()
 }
 
 /// The tape must be accepted with so many data lines and cells, and written
@@ -48,7 +31,7 @@ fn refusal_at(text: &str, base: u32, length: usize) -> (u32, usize, usize) {
 fn accepted_at(text: &str, window: (u32, usize), counts: (usize, usize), wanted: &str) {
     let outcome = load_at(text, window.0, window.1);
     assert_eq!(outcome.loaded.refusal, Refusal::default());
-    assert_eq!((outcome.loaded.records, outcome.loaded.cells), counts);
+    assert_eq!(outcome.counts(), (counts.0, counts.1, None));
     let marked = outcome.marks.iter().filter(|&&mark| mark == 1).count();
     assert_eq!(marked, counts.1);
     for (byte, mark) in outcome.memory.iter().zip(&outcome.marks) {
@@ -72,19 +55,6 @@ fn written(base: u32, memory: &[u8], marks: &[u8]) -> String {
     // Every LF stands behind a CR, every CR before an LF.
     assert_eq!(text.replace("\r\n", "").find(['\r', '\n']), None);
     text.replace("\r\n", "\n")
-}
-
-/// What the writer answers for a refusal.
-fn unwritten(number: u32, place: usize) -> Written {
-    Written {
-        refusal: Refusal {
-            number,
-            record: 0,
-            place,
-            want: 0,
-        },
-        length: 0,
-    }
 }
 
 /// The first sample of srec_mos_tech(5). 0C and the letters' 1096 are 1108,
@@ -165,11 +135,7 @@ fn no_last_line() {
 
 #[test]
 fn window_that_is_not_allowed() {
-    let mut memory = [5; 2];
-    let mut marks = [5; 3];
-    let loaded = load_tape(b";0000000000", 0, &mut memory, &mut marks);
-    assert_eq!((loaded.refusal.number, loaded.refusal.record), (1, 0));
-    assert_eq!((memory, marks), ([5; 2], [0; 3]));
+    unequal_marks_are_refused(load_tape, ";0000000000");
     assert_eq!(refusal_at(";0000000000", 0xFFFF_FFFF, 2), (1, 0, 0));
     assert_eq!(refusal_at(";0000000000", 0xFFFF_FFFF, 1), (0, 0, 0));
     assert_eq!(refusal_at("x", 0xFFFF_FFFF, 2), (1, 0, 0));
@@ -197,7 +163,7 @@ fn longest_line() {
     assert_eq!(line.len(), 521);
     let outcome = load_at(&format!("{line}\n;0000010001"), 0, 1024);
     assert_eq!(outcome.loaded.refusal, Refusal::default());
-    assert_eq!((outcome.loaded.records, outcome.loaded.cells), (1, 255));
+    assert_eq!(outcome.counts(), (1, 255, None));
     assert_eq!((outcome.marks[0], outcome.marks[1]), (0, 1));
     assert_eq!((outcome.marks[255], outcome.marks[256]), (1, 0));
     assert_eq!(refusal(&format!("{line}0\n;0000010001")), (3, 1, 0));
@@ -360,8 +326,7 @@ fn about_256_data_lines() {
         let text = one_cell_lines(number) + last;
         let outcome = load_at(&text, 0, 1024);
         assert_eq!(outcome.loaded.refusal, Refusal::default(), "{number}");
-        let loaded = &outcome.loaded;
-        assert_eq!((loaded.records, loaded.cells), (number, number));
+        assert_eq!(outcome.counts(), (number, number, None));
         let bytes: Vec<u8> = (0..number).map(|address| address as u8).collect();
         assert_eq!(outcome.memory[..number], bytes);
     }

@@ -1,72 +1,24 @@
-//! Whether the generated cases reach every refusal and every pair of rows.
+//! The cases of S-records.
 
-use second::cases::{
-    aimed_number, aimed_write_number, can_meet, large_load_cases, load_case, write_case, FULL,
-    LOAD_NUMBERS, SMALL,
-};
-use second::reading::{load, rows_of_refused_record, write};
+use super::{loads, numbers_and_records, rows};
+use second::cases::{large_load_cases, FULL, LOAD_NUMBERS, RECORDS, SMALL};
 use std::collections::{BTreeMap, BTreeSet};
-
-const CASES: u64 = 50_000;
 
 #[test]
 fn every_load_refusal_and_pair() {
-    let mut numbers = BTreeMap::new();
-    let mut pairs = BTreeMap::new();
-    for index in 0..CASES {
-        let mut case = load_case(1, index, FULL);
-        let (memory, marks) = (&mut case.memory, &mut case.marks);
-        let refusal = load(&case.text, case.base, memory, marks).refusal;
-        *numbers.entry(refusal.number).or_insert(0) += 1;
-        let aimed = aimed_number(index);
-        assert!(
-            aimed.is_none_or(|aimed| aimed == refusal.number),
-            "case {index}"
-        );
-        if refusal.number == 1 {
-            continue;
-        }
-        let rows = rows_of_refused_record(&case.text, case.base, case.memory.len());
-        let first = rows.first().copied();
-        assert_eq!(first, Some(refusal.number).filter(|&n| n != 0 && n != 14));
-        for (at, &upper) in rows.iter().enumerate() {
-            for &lower in &rows[at + 1..] {
-                *pairs.entry((upper, lower)).or_insert(0) += 1;
-            }
-        }
-    }
-    println!("load refusals: {numbers:?}");
-    println!("pairs of rows: {pairs:?}");
-    // Number 9 is not among them.
-    let found: Vec<u32> = numbers.into_keys().collect();
-    assert_eq!(found, LOAD_NUMBERS);
-    let all = (2..=13).flat_map(|upper| (upper + 1..=13).map(move |lower| (upper, lower)));
-    for (upper, lower) in all {
-        let came_up = pairs.contains_key(&(upper, lower));
-        assert_eq!(came_up, can_meet(upper, lower), "rows {upper} and {lower}");
-    }
+    super::every_load_refusal_and_pair(&RECORDS);
 }
 
 #[test]
 fn every_write_refusal() {
-    let (mut numbers, mut absent) = (BTreeMap::new(), BTreeMap::new());
-    for index in 0..CASES {
-        let case = write_case(1, index, FULL);
-        let mut out = vec![0; case.room];
-        let (memory, marks) = (&case.memory, &case.marks);
-        let written = write(case.base, memory, marks, &case.header, case.entry, &mut out);
-        let number = written.refusal.number;
-        assert_eq!(number, aimed_write_number(index), "case {index}");
-        *numbers.entry(number).or_insert(0) += 1;
+    let mut absent = BTreeMap::new();
+    super::every_write_refusal(&RECORDS, &[0, 1, 15, 16, 17, 18], |case, number| {
         if case.entry.is_none() {
             // No text has fewer than 33 characters, whatever its entry is.
             *absent.entry((number, case.room < 33)).or_insert(0) += 1;
         }
-    }
-    println!("write refusals: {numbers:?}");
+    });
     println!("without an entry, and whether row 17 would apply: {absent:?}");
-    let found: Vec<u32> = numbers.into_keys().collect();
-    assert_eq!(found, [0, 1, 15, 16, 17, 18]);
     // Row 18 gives way to those before it, and comes before row 17.
     let wanted = [1, 15, 16, 18].into_iter();
     let wanted: Vec<(u32, bool)> = wanted.flat_map(|n| [(n, false), (n, true)]).collect();
@@ -80,14 +32,11 @@ fn every_write_refusal() {
 fn wrong_counts_of_types_without_data() {
     for limits in [SMALL, FULL] {
         let mut found = BTreeMap::new();
-        for index in 0..CASES {
-            let mut case = load_case(1, index, limits);
-            let (memory, marks) = (&mut case.memory, &mut case.marks);
-            let refusal = load(&case.text, case.base, memory, marks).refusal;
+        for (case, refusal) in loads(&RECORDS, limits) {
             if refusal.number != 6 {
                 continue;
             }
-            let rows = rows_of_refused_record(&case.text, case.base, case.memory.len());
+            let rows = rows(&RECORDS, &case);
             let mut lines = case.text[refusal.place..].split(|&c| c == b'\r' || c == b'\n');
             let line = std::str::from_utf8(lines.next().unwrap()).unwrap();
             let (kind, count) = (&line[1..2], usize::from_str_radix(&line[2..4], 16).unwrap());
@@ -150,10 +99,7 @@ fn widths_in_accepted_texts() {
     for limits in [SMALL, FULL] {
         let mut pairs = BTreeMap::new();
         let mut all_three = 0;
-        for index in 0..CASES {
-            let mut case = load_case(1, index, limits);
-            let (memory, marks) = (&mut case.memory, &mut case.marks);
-            let refusal = load(&case.text, case.base, memory, marks).refusal;
+        for (case, refusal) in loads(&RECORDS, limits) {
             if refusal.number != 0 {
                 continue;
             }
@@ -178,10 +124,7 @@ fn widths_in_accepted_texts() {
 fn widths_in_refused_texts() {
     for limits in [SMALL, FULL] {
         let (mut mixed, mut pairs) = (BTreeMap::new(), BTreeMap::new());
-        for index in 0..CASES {
-            let mut case = load_case(1, index, limits);
-            let (memory, marks) = (&mut case.memory, &mut case.marks);
-            let refusal = load(&case.text, case.base, memory, marks).refusal;
+        for (case, refusal) in loads(&RECORDS, limits) {
             let before = types(&case.text[..refusal.place]);
             let data: BTreeSet<char> = before
                 .iter()
@@ -191,7 +134,7 @@ fn widths_in_refused_texts() {
             if data.len() >= 2 {
                 *mixed.entry(refusal.number).or_insert(0) += 1;
             }
-            let rows = rows_of_refused_record(&case.text, case.base, case.memory.len());
+            let rows = rows(&RECORDS, &case);
             let own = case.text.get(refusal.place + 1).copied().unwrap_or(0);
             // No window goes on after the 32-bit addresses.
             if rows == [11] || own == b'3' && rows == [11, 12] {
@@ -215,10 +158,7 @@ fn widths_in_refused_texts() {
 fn right_checksums() {
     for limits in [SMALL, FULL] {
         let mut found = BTreeMap::new();
-        for index in 0..CASES {
-            let mut case = load_case(1, index, limits);
-            let (memory, marks) = (&mut case.memory, &mut case.marks);
-            let refusal = load(&case.text, case.base, memory, marks).refusal;
+        for (case, refusal) in loads(&RECORDS, limits) {
             if refusal.number == 7 && [0, 0xFF].contains(&refusal.want) {
                 let kind = char::from(case.text[refusal.place + 1]);
                 *found.entry((refusal.want, kind)).or_insert(0) += 1;
@@ -234,34 +174,11 @@ fn right_checksums() {
 
 #[test]
 fn small_cases_are_small_and_reach_all() {
-    for seed in 0..20 {
-        let mut numbers = BTreeMap::new();
-        for index in 0..300 {
-            let mut case = load_case(seed, index, SMALL);
-            let (memory, marks) = (&mut case.memory, &mut case.marks);
-            let number = load(&case.text, case.base, memory, marks).refusal.number;
-            let mut lines = case.text.split(|&c| c == b'\r' || c == b'\n');
-            let about_row_3 = lines.any(|line| line.len() >= 513);
-            assert!(case.text.len() <= if about_row_3 { 1_000 } else { 400 });
-            assert!(case.memory.len() <= 64 && case.marks.len() <= 65);
-            *numbers.entry(number).or_insert(0) += 1;
-        }
-        let often = |number| numbers.get(number).is_some_and(|&n| n >= 5);
-        assert!(LOAD_NUMBERS.iter().all(often));
-        assert_eq!(numbers.len(), LOAD_NUMBERS.len());
-    }
+    super::small_cases_are_small_and_reach_all(&RECORDS, |c| c == b'\r' || c == b'\n', 513);
 }
 
 #[test]
 fn large_cases() {
-    let refusals: Vec<(u32, usize)> = large_load_cases(2)
-        .into_iter()
-        .map(|mut case| {
-            let (memory, marks) = (&mut case.memory, &mut case.marks);
-            let refusal = load(&case.text, case.base, memory, marks).refusal;
-            (refusal.number, refusal.record)
-        })
-        .collect();
     let wanted = [
         (0, 0),
         (10, 65_536),
@@ -270,14 +187,10 @@ fn large_cases() {
         (10, 65_537),
         (0, 0),
     ];
-    assert_eq!(refusals, wanted);
+    assert_eq!(numbers_and_records(&RECORDS, &large_load_cases(2)), wanted);
 }
 
 #[test]
 fn cases_are_drawn_again_alike() {
-    for index in 0..500 {
-        assert_eq!(load_case(9, index, FULL), load_case(9, index, FULL));
-        assert_eq!(write_case(9, index, FULL), write_case(9, index, FULL));
-    }
-    assert_ne!(load_case(9, 2, FULL), load_case(10, 2, FULL));
+    super::cases_are_drawn_again_alike(&RECORDS);
 }

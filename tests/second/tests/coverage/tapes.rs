@@ -1,76 +1,28 @@
-//! Whether the generated tapes reach every refusal, every pair of rows and
-//! every boundary.
+//! The cases of tapes.
 
+use super::{loads, numbers_and_records, CASES};
 use second::cases::tapes::{
-    aimed_number, aimed_write_number, can_meet, large_load_cases, large_write_cases, load_case,
-    write_case, FULL, LOAD_NUMBERS, SMALL, WRITE_NUMBERS,
+    large_load_cases, large_write_cases, FULL, SMALL, TAPES, WRITE_NUMBERS,
 };
 use second::reading::Refusal;
-use second::tape::{is_separator, load_tape, rows_of_refused_line, write_tape};
+use second::tape::{is_separator, write_tape};
 use std::collections::BTreeMap;
-
-const CASES: u64 = 50_000;
 
 #[test]
 fn every_load_refusal_and_pair() {
-    let mut numbers = BTreeMap::new();
-    let mut pairs = BTreeMap::new();
-    for index in 0..CASES {
-        let mut case = load_case(1, index, FULL);
-        let (memory, marks) = (&mut case.memory, &mut case.marks);
-        let refusal = load_tape(&case.text, case.base, memory, marks).refusal;
-        *numbers.entry(refusal.number).or_insert(0) += 1;
-        let aimed = aimed_number(index);
-        assert!(
-            aimed.is_none_or(|aimed| aimed == refusal.number),
-            "case {index}: {}",
-            refusal.number
-        );
-        if refusal.number == 1 {
-            continue;
-        }
-        let rows = rows_of_refused_line(&case.text, case.base, case.memory.len());
-        let first = rows.first().copied();
-        assert_eq!(first, Some(refusal.number).filter(|&n| n != 0 && n != 14));
-        for (at, &upper) in rows.iter().enumerate() {
-            for &lower in &rows[at + 1..] {
-                *pairs.entry((upper, lower)).or_insert(0) += 1;
-            }
-        }
-    }
-    println!("load refusals: {numbers:?}");
-    println!("pairs of rows: {pairs:?}");
-    // Numbers 8 and 9 are not among them.
-    let found: Vec<u32> = numbers.into_keys().collect();
-    assert_eq!(found, LOAD_NUMBERS);
-    let all = (2..=13).flat_map(|upper| (upper + 1..=13).map(move |lower| (upper, lower)));
-    for (upper, lower) in all {
-        let came_up = pairs.contains_key(&(upper, lower));
-        assert_eq!(came_up, can_meet(upper, lower), "rows {upper} and {lower}");
-    }
+    super::every_load_refusal_and_pair(&TAPES);
 }
 
 #[test]
 fn every_write_refusal() {
-    let (mut numbers, mut named) = (BTreeMap::new(), BTreeMap::new());
-    for index in 0..CASES {
-        let case = write_case(1, index, FULL);
-        let mut out = vec![0; case.room];
-        let (memory, marks) = (&case.memory, &case.marks);
-        let written = write_tape(case.base, memory, marks, &case.header, case.entry, &mut out);
-        let number = written.refusal.number;
-        assert_eq!(number, aimed_write_number(index), "case {index}");
-        *numbers.entry(number).or_insert(0) += 1;
+    let mut named = BTreeMap::new();
+    super::every_write_refusal(&TAPES, &WRITE_NUMBERS, |case, number| {
         if number == 19 {
             let by = (!case.header.is_empty(), case.entry.is_some());
             *named.entry(by).or_insert(0) += 1;
         }
-    }
-    println!("write refusals: {numbers:?}");
+    });
     println!("row 19 by header and by entry: {named:?}");
-    // Numbers 15 and 18 are not among them.
-    let found: Vec<u32> = numbers.into_keys().collect();
-    assert_eq!(found, WRITE_NUMBERS);
     let found: Vec<(bool, bool)> = named.into_keys().collect();
     assert_eq!(found, [(false, true), (true, false), (true, true)]);
 }
@@ -152,10 +104,7 @@ fn boundaries(text: &[u8], refusal: &Refusal) -> Vec<&'static str> {
 #[test]
 fn every_boundary() {
     let mut found: BTreeMap<&str, usize> = BTreeMap::new();
-    for index in 0..CASES {
-        let mut case = load_case(1, index, FULL);
-        let (memory, marks) = (&mut case.memory, &mut case.marks);
-        let refusal = load_tape(&case.text, case.base, memory, marks).refusal;
+    for (case, refusal) in loads(&TAPES, TAPES.full) {
         for name in boundaries(&case.text, &refusal) {
             *found.entry(name).or_insert(0) += 1;
         }
@@ -171,8 +120,8 @@ fn runs_in_writes() {
     for (limits, least) in [(SMALL, 10), (FULL, 100)] {
         let mut found = BTreeMap::new();
         for index in 0..CASES {
-            let case = write_case(1, index, limits);
-            if aimed_write_number(index) != 0 {
+            let case = TAPES.write_case(1, index, limits);
+            if TAPES.aimed_write_number(index) != 0 {
                 continue;
             }
             for run in case.marks.split(|&mark| mark == 0) {
@@ -190,36 +139,11 @@ fn runs_in_writes() {
 
 #[test]
 fn small_cases_are_small_and_reach_all() {
-    for seed in 0..20 {
-        let mut numbers = BTreeMap::new();
-        for index in 0..300 {
-            let mut case = load_case(seed, index, SMALL);
-            let (memory, marks) = (&mut case.memory, &mut case.marks);
-            let number = load_tape(&case.text, case.base, memory, marks)
-                .refusal
-                .number;
-            let mut lines = case.text.split(|&c| is_separator(c));
-            let about_row_3 = lines.any(|line| line.len() >= 520);
-            assert!(case.text.len() <= if about_row_3 { 1_000 } else { 400 });
-            assert!(case.memory.len() <= 64 && case.marks.len() <= 65);
-            *numbers.entry(number).or_insert(0) += 1;
-        }
-        let often = |number| numbers.get(number).is_some_and(|&n| n >= 5);
-        assert!(LOAD_NUMBERS.iter().all(often), "{numbers:?}");
-        assert_eq!(numbers.len(), LOAD_NUMBERS.len());
-    }
+    super::small_cases_are_small_and_reach_all(&TAPES, is_separator, 520);
 }
 
 #[test]
 fn large_cases() {
-    let refusals: Vec<(u32, usize)> = large_load_cases(2)
-        .into_iter()
-        .map(|mut case| {
-            let (memory, marks) = (&mut case.memory, &mut case.marks);
-            let refusal = load_tape(&case.text, case.base, memory, marks).refusal;
-            (refusal.number, refusal.record)
-        })
-        .collect();
     let wanted = [
         (0, 0),
         (10, 65_536),
@@ -227,7 +151,7 @@ fn large_cases() {
         (10, 65_537),
         (14, 65_536),
     ];
-    assert_eq!(refusals, wanted);
+    assert_eq!(numbers_and_records(&TAPES, &large_load_cases(2)), wanted);
     let refusals: Vec<(u32, usize, usize)> = large_write_cases(2)
         .into_iter()
         .map(|case| {
@@ -257,9 +181,5 @@ fn large_cases() {
 
 #[test]
 fn cases_are_drawn_again_alike() {
-    for index in 0..500 {
-        assert_eq!(load_case(9, index, FULL), load_case(9, index, FULL));
-        assert_eq!(write_case(9, index, FULL), write_case(9, index, FULL));
-    }
-    assert_ne!(load_case(9, 2, FULL), load_case(10, 2, FULL));
+    super::cases_are_drawn_again_alike(&TAPES);
 }

@@ -1,9 +1,10 @@
-//! The published samples, with the numbers worked out by hand.
+//! The published samples.
 
-use second::reading::{canonical, load, Loaded};
+use super::Outcome;
+use second::reading::{canonical, load};
 
 /// The sample file of the Unix manual page srec(5).
-const MANUAL_PAGE: &str = "S00600004844521B
+pub const MANUAL_PAGE: &str = "S00600004844521B
 S1130000285F245F2212226A000424290008237C2A
 S11300100002000800082629001853812341001813
 S113002041E900084E42234300182342000824A952
@@ -70,41 +71,16 @@ irrational which some philosophers have not maintained for
 truth.
 ";
 
-struct Outcome {
-    loaded: Loaded,
-    memory: Vec<u8>,
-    marks: Vec<u8>,
-}
-
 /// Loads into 1,024 cells from 0 on.
+#[track_caller]
 fn load_text(text: &str) -> Outcome {
-    let mut memory = vec![0xEE; 1024];
-    let mut marks = vec![7; 1024];
-    let loaded = load(text.as_bytes(), 0, &mut memory, &mut marks);
-    Outcome {
-        loaded,
-        memory,
-        marks,
-    }
+    super::load_at(load, text, 0, 1024)
 }
 
 /// The text must be refused with this number, record and place.
 #[track_caller]
 fn refused(text: &str, wanted: (u32, usize, usize)) {
-    let outcome = load_text(text);
-    let Loaded {
-        refusal,
-        header_len,
-        header,
-        entry,
-        records,
-        cells,
-    } = outcome.loaded;
-    assert_eq!((refusal.number, refusal.record, refusal.place), wanted);
-    assert_eq!((header_len, header), (0, [0; 252]));
-    assert_eq!((entry, records, cells), (None, 0, 0));
-    assert!(outcome.memory.iter().all(|&byte| byte == 0xEE));
-    assert!(outcome.marks.iter().all(|&mark| mark == 0));
+    assert_eq!(load_text(text).refusal(), wanted);
 }
 
 /// The text must be accepted with this header, entry, number of data records
@@ -112,16 +88,11 @@ fn refused(text: &str, wanted: (u32, usize, usize)) {
 #[track_caller]
 fn accepted(text: &str, told: (&str, u32, usize, usize), wanted: &str) {
     let outcome = load_text(text);
-    let loaded = &outcome.loaded;
-    let refusal = loaded.refusal;
-    assert_eq!((refusal.number, refusal.record, refusal.place), (0, 0, 0));
+    assert_eq!(outcome.refusal(), (0, 0, 0));
     let (header, entry, records, cells) = told;
     let header = header.as_bytes();
-    assert_eq!(&loaded.header[..loaded.header_len], header);
-    assert_eq!(
-        (loaded.entry, loaded.records, loaded.cells),
-        (Some(entry), records, cells)
-    );
+    assert_eq!(outcome.header(), header);
+    assert_eq!(outcome.counts(), (records, cells, Some(entry)));
     let written = canonical(0, &outcome.memory, &outcome.marks, header, entry);
     assert_eq!(String::from_utf8(written).unwrap(), wanted);
 }
@@ -246,10 +217,8 @@ fn academy() {
     let title = "The Great Academy of Lagado";
     let text = format!("{ACADEMY}S503001EDE\nS9030000FC\n");
     let outcome = load_text(&text);
-    let loaded = &outcome.loaded;
-    assert_eq!(&loaded.header[..loaded.header_len], title.as_bytes());
-    let counts = (loaded.records, loaded.cells);
-    assert_eq!((loaded.entry, counts), (Some(0), (30, 883)));
+    assert_eq!(outcome.header(), title.as_bytes());
+    assert_eq!(outcome.counts(), (30, 883, Some(0)));
     let prose = PROSE.replace('\n', "\r\n");
     assert_eq!(prose.len(), 883);
     assert_eq!(&outcome.memory[..883], prose.as_bytes());
