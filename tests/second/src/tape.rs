@@ -19,6 +19,9 @@ const REACH: u64 = 1 << 16;
 /// The most data bytes of a written line.
 const CUT: usize = 24;
 
+/// The end of a written line.
+const LINE_END: &[u8] = b"\r\n";
+
 /// Loads a tape into the window from `base` on. Its header is empty and its
 /// entry absent.
 pub fn load_tape(text: &[u8], base: u32, memory: &mut [u8], marks: &mut [u8]) -> Loaded {
@@ -76,7 +79,8 @@ fn right_check(line: &Record) -> u64 {
         return line.address();
     }
     let summed = (0..check_pair(line)).map(|index| u64::from(line.byte(index)));
-    summed.sum::<u64>() % 65_536
+    let sum: u64 = summed.sum();
+    sum % 65_536
 }
 
 /// The rows tried for each line, from the top. Numbers 8 and 9 are never given.
@@ -145,11 +149,11 @@ pub fn canonical_tape(base: u32, memory: &[u8], marks: &[u8]) -> Vec<u8> {
         bytes.extend(&line.data);
         let sum: u64 = bytes.iter().map(|&byte| u64::from(byte)).sum();
         bytes.extend((sum as u16).to_be_bytes());
-        put_line(&mut text, b";", &bytes, b"\r\n");
+        put_line(&mut text, b";", &bytes, LINE_END);
     }
     // At most every other of 2^16 cells starts a line, so the number fits.
     let number = (lines.len() as u16).to_be_bytes();
     let last = [&[0], &number[..], &number[..]].concat();
-    put_line(&mut text, b";", &last, b"\r\n");
+    put_line(&mut text, b";", &last, LINE_END);
     text
 }

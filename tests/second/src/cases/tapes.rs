@@ -57,6 +57,10 @@ pub static TAPES: Drawing = Drawing {
     refused_write: writes::case,
 };
 
+pub fn load_case(seed: u64, index: u64, limits: Limits) -> LoadCase {
+    TAPES.load_case(seed, index, limits)
+}
+
 fn open(random: &mut Random, limits: Limits) -> LoadCase {
     match random.below(12) {
         0..=3 => TAPES.mutated(random, limits),
