@@ -1,4 +1,5 @@
-/* srec.h: Motorola S-records into lent memory, and an image back as one canonical S-record text.
+/* srec.h: Motorola S-records and MOS Technology paper tapes into lent memory, and an image back as one canonical S-record
+ * text or one canonical tape.
  *
  * Link with libcapi.a (`rt staticlib capi` writes target/staticlib/libcapi.a). No heap, no global state, nothing is printed.
  *
@@ -66,29 +67,53 @@ uint32_t srec_load(const uint8_t *text, size_t text_len, uint32_t base, uint8_t 
 size_t srec_write(uint32_t base, const uint8_t *memory, size_t memory_len, const uint8_t *marks, size_t marks_len,
                   const uint8_t *header, size_t header_len, uint32_t entry, uint8_t *out, size_t out_len);
 
-/* The words for a row, or for 0; NULL for a number that is no row. No function here gives row 18. */
+/* Loads a paper tape into a window. Returns 0 if the tape is accepted, else the number of the row that refuses it: 1 to 7
+ * or 10 to 14, never 8 and 9. Row 3 is for a line of more than 521 characters, row 10 for a last line with another number
+ * than that of the data lines before it, row 11 for data above FFFF, row 14 for a tape without a last line.
+ *
+ *   text, text_len        the tape; lines end in CR, LF, NUL or XOFF (13 hex), and the last need not end
+ *   base                  the address of memory[0]; the window may pass FFFF, or lie above it
+ *   memory, memory_len    as for srec_load
+ *   marks, marks_len      as for srec_load
+ */
+uint32_t srec_load_tape(const uint8_t *text, size_t text_len, uint32_t base, uint8_t *memory, size_t memory_len,
+                        uint8_t *marks, size_t marks_len);
+
+/* Writes the canonical tape of a window at the start of out. Returns its length, or 0 if a row (1, 16, 11 or 17) refuses
+ * it; a canonical tape is never empty. After a refusal out is unchanged. Bytes of out behind the tape are unchanged.
+ * Row 11 is for a marked cell above FFFF. A tape has no header and no entry, and none can be given: row 19 never comes up.
+ *
+ *   base, memory, memory_len, marks, marks_len   the window; each mark is 0 or 1
+ *   out, out_len                                 13 * (lines + 1) + 2 * cells bytes are always enough, where lines is at
+ *                                                most cells
+ */
+size_t srec_write_tape(uint32_t base, const uint8_t *memory, size_t memory_len, const uint8_t *marks, size_t marks_len,
+                       uint8_t *out, size_t out_len);
+
+/* The words for a row, or for 0; NULL for a number that is no row. No function here gives rows 18 and 19. */
 static inline const char *srec_reason(unsigned number)
 {
     static const char *const words[] = {
         "accepted",
         "marks and memory differ in length, or the window passes 2^32",
-        "a record stands after the terminator",
-        "the record has more than 514 characters",
-        "the record is no S-record of a known type",
+        "a record stands after the terminator, or a line after the tape's last",
+        "the record has more than 514 characters, or the tape's line more than 521",
+        "the record is no S-record of a known type, or no line of a tape",
         "a character is no hex digit",
-        "the record's length does not agree with its count or type",
+        "the record's length does not agree with its count or type, or the line's with its length field",
         "the checksum is wrong",
         "a header record is not the first record",
         "reserved: never given any more",
-        "the count record does not agree with the data records before it",
-        "the data passes the end of the record's address width",
+        "the count record, or the tape's last line, does not agree with the data before it",
+        "the data passes the end of the record's address width, or FFFF on a tape",
         "some data lies outside the window",
         "a cell is addressed twice",
-        "there is no terminator",
+        "there is no terminator, or the tape has no last line",
         "the header has more than 252 bytes",
         "a mark is neither 0 nor 1",
-        "the output is too short for the text",
+        "the output is too short for the text or tape",
         "the image has no entry",
+        "a tape holds neither a header nor an entry",
     };
     return number < sizeof words / sizeof words[0] ? words[number] : NULL;
 }

@@ -7,8 +7,12 @@
 static const uint8_t terminator[] = {'S', '9', '0', '3', '0', '0', '0', '0', 'F', 'C'};
 static const uint8_t one_cell[] = "S1040000AA51\nS9030000FC\n";
 static const char shortest[] = "S0030000FC\nS5030000FC\nS9030000FC\n";
+static const uint8_t last_line[] = {';', '0', '0', '0', '0', '0', '0', '0', '0', '0', '0'};
+static const uint8_t tape_cell[] = ";010000AA00AB\r\n;0000010001\r\n";
+static const char shortest_tape[] = ";0000000000\r\n";
 
 enum { SHORTEST = sizeof shortest - 1, ONE_CELL = sizeof one_cell - 1 };
+enum { SHORTEST_TAPE = sizeof shortest_tape - 1, TAPE_CELL = sizeof tape_cell - 1 };
 
 /* Row 14, and the window is as after any refusal. */
 static void empty_text(void)
@@ -78,6 +82,43 @@ static void empty_output(void)
     CHECK(srec_write(0, NULL, 0, NULL, 0, NULL, 0, 0, NULL, 0) == 0);
 }
 
+/* The same of a tape: no text, no window, half a window. */
+static void load_tapes(void)
+{
+    uint8_t memory[2] = {8, 9};
+    uint8_t marks[2] = {5, 1};
+
+    CHECK(srec_load_tape(NULL, 0, 0, memory, 2, marks, 2) == 14);
+    CHECK(memory[0] == 8 && memory[1] == 9);
+    CHECK(marks[0] == 0 && marks[1] == 0);
+    CHECK(srec_load_tape(NULL, 0, 0, NULL, 0, NULL, 0) == 14);
+    CHECK(srec_load_tape(last_line, sizeof last_line, 0, NULL, 0, NULL, 0) == 0);
+    CHECK(srec_load_tape(last_line, sizeof last_line, UINT32_MAX, NULL, 0, NULL, 0) == 0);
+    CHECK(srec_load_tape(tape_cell, TAPE_CELL, 0, NULL, 0, NULL, 0) == 12);
+    marks[1] = 1;
+    CHECK(srec_load_tape(last_line, sizeof last_line, 0, NULL, 0, marks, 2) == 1);
+    CHECK(marks[0] == 0 && marks[1] == 0);
+    CHECK(srec_load_tape(last_line, sizeof last_line, 0, memory, 2, NULL, 0) == 1);
+    CHECK(memory[0] == 8 && memory[1] == 9);
+}
+
+static void write_tapes(void)
+{
+    const uint8_t memory[] = {0xAA};
+    const uint8_t marks[] = {1};
+    uint8_t out[TAPE_CELL] = {0};
+
+    CHECK(srec_write_tape(7, NULL, 0, NULL, 0, out, SHORTEST_TAPE) == SHORTEST_TAPE);
+    CHECK(memcmp(out, shortest_tape, SHORTEST_TAPE) == 0);
+    CHECK(srec_write_tape(UINT32_MAX, NULL, 0, NULL, 0, out, SHORTEST_TAPE) == SHORTEST_TAPE);
+    CHECK(srec_write_tape(0, memory, 1, marks, 1, out, sizeof out) == TAPE_CELL);
+    CHECK(memcmp(out, tape_cell, TAPE_CELL) == 0);
+    CHECK(srec_write_tape(0, memory, 1, marks, 1, NULL, 0) == 0);
+    CHECK(srec_write_tape(0, NULL, 0, NULL, 0, NULL, 0) == 0);
+    CHECK(srec_write_tape(0, memory, 1, NULL, 0, out, sizeof out) == 0);
+    CHECK(srec_write_tape(0, NULL, 0, marks, 1, out, sizeof out) == 0);
+}
+
 int main(void)
 {
     empty_text();
@@ -86,5 +127,7 @@ int main(void)
     write_empty_window();
     write_empty_header();
     empty_output();
+    load_tapes();
+    write_tapes();
     return failures != 0;
 }

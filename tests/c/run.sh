@@ -83,15 +83,15 @@ for source in "$root"/tests/c/*.c "$examples/canonical.c" "$bin/shown-header.c" 
 done
 
 command -v valgrind >/dev/null 2>&1 || echo "no valgrind here: 'watched' means the compiler's run-time checks"
-for name in words empty; do
+for name in words empty tape; do
     check "$name, watched" watched "$name"
     check "$name, as C++" "$bin/$name++"
     check "$name, with run-time checks" "$bin/$name-checked"
 done
 check "huge" "$bin/huge"
-check "stress, watched, $cases cases" watched stress "$cases" "$examples"/*.srec
+check "stress, watched, $cases cases of each format" watched stress "$cases" "$examples"/*.srec
 cat "$bin/log"
-check "stress, with run-time checks, ${cases}0 cases" "$bin/stress-checked" "${cases}0" "$examples"/*.srec
+check "stress, with run-time checks, ${cases}0 cases of each format" "$bin/stress-checked" "${cases}0" "$examples"/*.srec
 
 check "header's example, two cells" \
     prints '2 of 32768 cells' sh -c 'printf "S1058000AA557B\nS9030000FC\n" | "$0"' "$bin/shown-header"

@@ -1,4 +1,5 @@
-/* stress CASES FILE...: loads drawn and mutated texts, writes what was accepted, and loads that again.
+/* stress CASES FILE...: loads so many drawn and mutated texts of each format, writes what was accepted, and loads that
+ * again. The files are S-record texts, to be mutated too.
  *
  * Every buffer of the library comes from malloc and is just as long as the library is told. Marks are never set before
  * a load, and memory only in half of the cases. So under valgrind any access outside a buffer is seen, and any use of
@@ -10,8 +11,7 @@
 #include "check.h"
 #include "srec.h"
 
-/* No row has the number RESERVED. */
-enum { LAST_ROW = 14, RESERVED = 9, ROOM = 16384, LONGEST_FILE = 8192 };
+enum { LAST_ROW = 14, ROOM = 16384, LONGEST_FILE = 8192 };
 
 struct text {
     uint8_t *bytes;
@@ -73,22 +73,59 @@ static void put_record(struct text *text, char kind, size_t width, uint64_t addr
     text->length = (size_t)((uint8_t *)at - text->bytes);
 }
 
-/* Appends a data record near the window, often of another width, seldom at its width's end. */
-static void put_data(struct text *text, size_t width, const struct window *window)
+/* Appends a line of a tape with the right check; one without data is a last line, with a number for an address. */
+static void put_line(struct text *text, uint64_t address, size_t count)
 {
-    size_t own = draw(3) ? width : 2 + draw(3);
-    uint64_t reach = (uint64_t)1 << 8 * own;
+    static const char ends[] = {'\r', '\n', '\0', '\x13'};
+    const unsigned head[] = {(unsigned)count, (unsigned)(address >> 8) & 0xFF, (unsigned)address & 0xFF};
+    unsigned sum = 0;
+    char *at = (char *)text->bytes + text->length;
+
+    *at++ = ';';
+    for (size_t i = 0; i < 3 + count; i++) {
+        unsigned byte = i < 3 ? head[i] : (unsigned)draw(256);
+        at += sprintf(at, draw(2) ? "%02X" : "%02x", byte);
+        sum += byte;
+    }
+    at += sprintf(at, "%04X", count > 0 ? sum : (unsigned)address);
+    *at++ = ends[draw(4)];
+    text->length = (size_t)((uint8_t *)at - text->bytes);
+}
+
+struct data {
+    uint64_t address;
+    size_t count;
+};
+
+/* Data near the window, seldom at the end of the addresses. */
+static struct data draw_data(const struct window *window, uint64_t reach, size_t most)
+{
     size_t index = draw(window->length + 1);
     uint64_t address = draw(20) ? (window->base + (uint64_t)index) % reach : reach - 1 - draw(4);
-    size_t count = draw(10) ? draw(6) : draw(255 - own);
+    size_t count = draw(10) ? draw(6) : draw(most + 1);
 
     if (draw(6) && count > window->length - index)
         count = window->length - index;
-    put_record(text, (char)('0' + own - 1), own, address, count);
+    return (struct data){address, count};
+}
+
+/* Appends a data record, often of another width. */
+static void put_data(struct text *text, size_t width, const struct window *window)
+{
+    size_t own = draw(3) ? width : 2 + draw(3);
+    struct data data = draw_data(window, (uint64_t)1 << 8 * own, 254 - own);
+
+    put_record(text, (char)('0' + own - 1), own, data.address, data.count);
+}
+
+static void put_data_line(struct text *text, const struct window *window)
+{
+    struct data data = draw_data(window, 1 << 16, 255);
+    put_line(text, data.address, data.count > 0 ? data.count : 1);
 }
 
 /* Records that fit together, and in the window, in most cases. */
-static void draw_text(struct text *text, const struct window *window)
+static void draw_records(struct text *text, const struct window *window)
 {
     size_t records = draw(5);
     size_t width = 2 + draw(3);
@@ -112,6 +149,20 @@ static void draw_text(struct text *text, const struct window *window)
         put_data(text, width, window);
 }
 
+/* The same of a tape's lines. */
+static void draw_tape(struct text *text, const struct window *window)
+{
+    size_t lines = draw(5);
+
+    text->length = 0;
+    for (size_t i = 0; i < lines; i++)
+        put_data_line(text, window);
+    if (draw(16))
+        put_line(text, draw(16) ? lines : draw(65536), 0);
+    if (draw(20) == 0)
+        put_data_line(text, window);
+}
+
 static void read_file(const char *name, struct text *text)
 {
     FILE *file = fopen(name, "rb");
@@ -126,7 +177,7 @@ static void read_file(const char *name, struct text *text)
 /* Changes, puts in or takes out a character, or cuts the text. What is put in may make a record too long. */
 static void mutate(struct text *text)
 {
-    static const char characters[] = "S0123456789ABCDEFabcdef\r\n xg";
+    static const char characters[] = "S;0123456789ABCDEFabcdef\r\n\x13 xg";
     size_t place = draw(text->length + 1);
     uint8_t *at = text->bytes + place;
     size_t behind = text->length - place;
@@ -177,13 +228,45 @@ static void free_window(struct window *window)
     free(window->before);
 }
 
-static uint32_t load(struct window *window, const struct text *text)
+static size_t write_records(const struct window *window, const struct text *header, uint8_t *out, size_t room)
+{
+    return srec_write(window->base, window->memory, window->length, window->marks, window->marks_length, header->bytes,
+                      header->length, 0x1234, out, room);
+}
+
+/* A tape has no header. */
+static size_t write_tape(const struct window *window, const struct text *header, uint8_t *out, size_t room)
+{
+    (void)header;
+    return srec_write_tape(window->base, window->memory, window->length, window->marks, window->marks_length, out,
+                           room);
+}
+
+/* `others` are the characters besides the header and the data lines, `line` those of a line besides its data, and
+ * `shortest` those of the shortest text. Of the rows up to LAST_ROW those in `never` are not given. */
+struct format {
+    const char *name;
+    void (*draw_text)(struct text *text, const struct window *window);
+    uint32_t (*load)(const uint8_t *, size_t, uint32_t, uint8_t *, size_t, uint8_t *, size_t);
+    size_t (*write)(const struct window *window, const struct text *header, uint8_t *out, size_t room);
+    size_t others, line, shortest;
+    unsigned never;
+};
+
+enum { RECORDS, TAPES, FORMATS };
+
+static const struct format formats[FORMATS] = {
+    {"S-records", draw_records, srec_load, write_records, 37, 15, 33, 1 << 9},
+    {"tapes", draw_tape, srec_load_tape, write_tape, 13, 13, 13, 1 << 8 | 1 << 9},
+};
+
+static uint32_t load(const struct format *format, struct window *window, const struct text *text)
 {
     uint8_t *exact = allocate(text->length);
     if (text->length > 0)
         memcpy(exact, text->bytes, text->length);
-    uint32_t row = srec_load(exact, text->length, window->base, window->memory, window->length,
-                             window->marks, window->marks_length);
+    uint32_t row = format->load(exact, text->length, window->base, window->memory, window->length, window->marks,
+                                window->marks_length);
     free(exact);
     return row;
 }
@@ -205,11 +288,11 @@ static void check_window(const struct window *window, uint32_t row)
 }
 
 /* Writes a window into an output of `room` bytes, which must come to `length`. */
-static struct text write_once(const struct window *window, const struct text *header, size_t room, size_t length)
+static struct text write_once(const struct format *format, const struct window *window, const struct text *header,
+                              size_t room, size_t length)
 {
     struct text out = {allocate(room), 0};
-    out.length = srec_write(window->base, window->memory, window->length, window->marks, window->marks_length,
-                            header->bytes, header->length, 0x1234, out.bytes, room);
+    out.length = format->write(window, header, out.bytes, room);
     CHECK(out.length == length || length == SIZE_MAX);
     CHECK(out.length <= room);
     for (size_t i = 0; i < out.length; i++)
@@ -218,7 +301,7 @@ static struct text write_once(const struct window *window, const struct text *he
 }
 
 /* Writes with more room than needed, as much as needed and one byte less. The text is the caller's to free. */
-static struct text write_thrice(const struct window *window)
+static struct text write_thrice(const struct format *format, const struct window *window)
 {
     struct text header = {NULL, draw(3) ? 0 : draw(253)};
     size_t cells = 0;
@@ -228,26 +311,27 @@ static struct text write_thrice(const struct window *window)
         header.bytes[i] = (uint8_t)draw(256);
     for (size_t i = 0; i < window->length; i++)
         cells += window->marks[i];
-    struct text wide = write_once(window, &header, 37 + 2 * header.length + 17 * cells, SIZE_MAX);
-    struct text exact = write_once(window, &header, wide.length, wide.length);
-    CHECK(exact.length >= 33 && memcmp(wide.bytes, exact.bytes, exact.length) == 0);
+    size_t enough = format->others + 2 * header.length + (format->line + 2) * cells;
+    struct text wide = write_once(format, window, &header, enough, SIZE_MAX);
+    struct text exact = write_once(format, window, &header, wide.length, wide.length);
+    CHECK(exact.length >= format->shortest && memcmp(wide.bytes, exact.bytes, exact.length) == 0);
     free(wide.bytes);
     if (exact.length > 0)
-        free(write_once(window, &header, exact.length - 1, 0).bytes);
+        free(write_once(format, window, &header, exact.length - 1, 0).bytes);
     free(header.bytes);
     return exact;
 }
 
 /* Writes an accepted window and loads the text into a fresh one, which must come out alike. */
-static void check_again(const struct window *window)
+static void check_again(const struct format *format, const struct window *window)
 {
-    struct text text = write_thrice(window);
+    struct text text = write_thrice(format, window);
     struct window again = *window;
 
     again.memory = allocate(again.length);
     again.marks = allocate(again.marks_length);
     again.before = NULL;
-    CHECK(load(&again, &text) == 0);
+    CHECK(load(format, &again, &text) == 0);
     check_window(&again, 0);
     for (size_t i = 0; i < window->length; i++) {
         CHECK(again.marks[i] == window->marks[i]);
@@ -257,47 +341,58 @@ static void check_again(const struct window *window)
     free(text.bytes);
 }
 
-/* Runs one case and gives the row. */
-static uint32_t run_case(char **files, size_t number)
+/* Runs one case and gives the row. What is loaded from a tape can be written as S-records too. */
+static uint32_t run_case(const struct format *format, char **files, size_t number)
 {
     static uint8_t scratch[ROOM];
     struct text text = {scratch, 0};
     struct window window = draw_window();
 
-    if (number > 0 && draw(3) == 0)
+    if (format == &formats[RECORDS] && number > 0 && draw(3) == 0)
         read_file(files[draw(number)], &text);
     else
-        draw_text(&text, &window);
+        format->draw_text(&text, &window);
     for (size_t changes = draw(2) * draw(3); changes > 0; changes--)
         mutate(&text);
-    uint32_t row = load(&window, &text);
+    uint32_t row = load(format, &window, &text);
     check_window(&window, row);
     if (row == 0)
-        check_again(&window);
+        check_again(format, &window);
+    if (row == 0 && format == &formats[TAPES])
+        check_again(&formats[RECORDS], &window);
     free_window(&window);
     return row;
 }
 
+/* Each row that a format has must have come up, and no other. */
+static void print_rows(const struct format *format, const unsigned rows[LAST_ROW + 1])
+{
+    printf("rows of %s ", format->name);
+    for (unsigned row = 0; row <= LAST_ROW; row++) {
+        printf("%s%u: %u", row ? ", " : "", row, rows[row]);
+        CHECK((rows[row] > 0) == !(format->never >> row & 1));
+    }
+    printf("\n");
+}
+
 int main(int argc, char **argv)
 {
-    unsigned rows[LAST_ROW + 1] = {0};
+    unsigned rows[FORMATS][LAST_ROW + 1] = {{0}};
     unsigned long cases = argc > 1 ? strtoul(argv[1], NULL, 10) : 0;
 
     if (cases == 0) {
         fputs("usage: stress CASES FILE...\n", stderr);
         return 2;
     }
-    for (unsigned long i = 0; i < cases && failures == 0; i++) {
-        uint32_t row = run_case(argv + 2, (size_t)(argc - 2));
-        if (row <= LAST_ROW)
-            rows[row]++;
-        if (failures > 0)
-            printf("case %lu\n", i);
-    }
-    for (unsigned row = 0; row <= LAST_ROW; row++) {
-        printf("%s%u: %u", row ? ", " : "rows ", row, rows[row]);
-        CHECK((rows[row] > 0) == (row != RESERVED));
-    }
-    printf("\n");
+    for (unsigned long i = 0; i < cases && failures == 0; i++)
+        for (int f = 0; f < FORMATS; f++) {
+            uint32_t row = run_case(&formats[f], argv + 2, (size_t)(argc - 2));
+            if (row <= LAST_ROW)
+                rows[f][row]++;
+            if (failures > 0)
+                printf("case %lu of %s\n", i, formats[f].name);
+        }
+    for (int f = 0; f < FORMATS; f++)
+        print_rows(&formats[f], rows[f]);
     return failures != 0;
 }
