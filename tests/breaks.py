@@ -21,8 +21,8 @@ from pathlib import Path
 TESTS = Path(__file__).resolve().parent
 BREAKS = TESTS / "breaks"
 TARGET = TESTS.parent / "target"
-READING = TESTS / "second" / "src" / "reading.rs"
-SOURCES = [READING, BREAKS / "library" / "face.rs", TESTS.parent / "include" / "srec.h"]
+READING = TESTS / "second" / "src"
+SOURCES = [READING / "reading.rs", READING / "tape.rs", BREAKS / "library" / "face.rs", TESTS.parent / "include" / "srec.h"]
 # fewer than in the usual runs: what is wrong is noticed soon
 SEED, CASES = "1", "20000"
 STRESS = {"STRESS_CASES": "500"}

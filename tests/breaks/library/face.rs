@@ -1,6 +1,7 @@
 //! The functions of include/srec.h over a copy of the second reading, to be edited wrongly.
 
 mod reading;
+mod tape;
 
 use std::slice::{from_raw_parts, from_raw_parts_mut};
 
@@ -64,4 +65,44 @@ pub unsafe extern "C" fn srec_write(
     let length = reading::write(base, cells, marks, title, Some(entry), room).length;
     // write ends
     length
+}
+
+/// # Safety
+/// As in include/srec.h.
+#[no_mangle]
+pub unsafe extern "C" fn srec_load_tape(
+    text: *const u8,
+    text_len: usize,
+    base: u32,
+    memory: *mut u8,
+    memory_len: usize,
+    marks: *mut u8,
+    marks_len: usize,
+) -> u32 {
+    // tape load starts
+    let lines = lent(text, text_len);
+    let cells = lent_mut(memory, memory_len);
+    let loaded = tape::load_tape(lines, base, cells, lent_mut(marks, marks_len));
+    // tape load ends
+    loaded.refusal.number
+}
+
+/// # Safety
+/// As in include/srec.h.
+#[no_mangle]
+pub unsafe extern "C" fn srec_write_tape(
+    base: u32,
+    memory: *const u8,
+    memory_len: usize,
+    marks: *const u8,
+    marks_len: usize,
+    out: *mut u8,
+    out_len: usize,
+) -> usize {
+    // tape write starts
+    let cells = lent(memory, memory_len);
+    let marks = lent(marks, marks_len);
+    let written = tape::write_tape(base, cells, marks, &[], None, lent_mut(out, out_len));
+    // tape write ends
+    written.length
 }

@@ -2,69 +2,37 @@
 //! number, place, right checksum, header, entry and counts, which the C face
 //! does not give. Texts of both formats are drawn.
 
+use crate::format::{Format, FORMATS};
 use crate::settings::Settings;
 use crate::tally::Tally;
-use second::cases::{self, tapes, Limits, LoadCase};
-use second::script::{Case, Format, ROOM};
+use second::script::{Case, ROOM};
 use std::env;
 use std::io::Write;
 use std::path::{Path, PathBuf};
 use std::process::{Command, Stdio};
 
-/// Texts of one format.
-struct Source {
-    name: &'static str,
-    format: Format,
-    load_case: fn(u64, u64, Limits) -> LoadCase,
-    full: Limits,
-    small: Limits,
-    /// What a load can answer.
-    numbers: &'static [u32],
-}
-
-const SOURCES: [Source; 2] = [
-    Source {
-        name: "S-records",
-        format: Format::Srec,
-        load_case: cases::load_case,
-        full: cases::FULL,
-        small: cases::SMALL,
-        numbers: &cases::LOAD_NUMBERS,
-    },
-    Source {
-        name: "tapes",
-        format: Format::Tape,
-        load_case: tapes::load_case,
-        full: tapes::FULL,
-        small: tapes::SMALL,
-        numbers: &tapes::LOAD_NUMBERS,
-    },
-];
-
-impl Source {
-    /// A drawn load whose window and text can be handed over; marks of another
-    /// length than the memory cannot. An index says what its case is made for,
-    /// by 4 and by 15: with 17 there are large ones of each kind.
-    fn case(&self, seed: u64, index: u64) -> Option<Case> {
-        let large = index.is_multiple_of(17);
-        let limits = if large { self.full } else { self.small };
-        let drawn = (self.load_case)(seed, index, limits);
-        let name = format!("seed {seed}, index {index}");
-        let case = Case::new(name, drawn.base, drawn.memory.len(), drawn.text)?.of(self.format);
-        let fits = drawn.marks.len() == case.cells && case.script().len() <= ROOM;
-        fits.then_some(case)
-    }
+/// A drawn load whose window and text can be handed over; marks of another
+/// length than the memory cannot. An index says what its case is made for,
+/// by 4 and by 15: with 17 there are large ones of each kind.
+fn drawn_case(format: &Format, seed: u64, index: u64) -> Option<Case> {
+    let large = index.is_multiple_of(17);
+    let limits = if large { format.full } else { format.small };
+    let drawn = (format.load_case)(seed, index, limits);
+    let name = format!("seed {seed}, index {index}");
+    let case = Case::new(name, drawn.base, drawn.memory.len(), drawn.text)?.of(format.script);
+    let fits = drawn.marks.len() == case.cells && case.script().len() <= ROOM;
+    fits.then_some(case)
 }
 
 /// Compares so many drawn texts of each format, the formats in turn; the
 /// program takes as many as its input holds.
 pub fn drawn(settings: &Settings) -> Result<String, String> {
-    let mut numbers = SOURCES.map(|source| Tally::of(source.numbers.iter().copied()));
+    let mut numbers = FORMATS.map(|format| Tally::of(format.load_numbers.iter().copied()));
     let (mut batch, mut script) = (Vec::new(), Vec::new());
     let mut compared = 0;
     for index in 0..settings.cases {
-        for (source, numbers) in SOURCES.iter().zip(&mut numbers) {
-            let Some(case) = source.case(settings.seed, index) else {
+        for (format, numbers) in FORMATS.iter().zip(&mut numbers) {
+            let Some(case) = drawn_case(format, settings.seed, index) else {
                 continue;
             };
             numbers.add(number(&case.answer()));
@@ -80,8 +48,8 @@ pub fn drawn(settings: &Settings) -> Result<String, String> {
     }
     compare(&batch, &script)?;
     let mut report = format!("{compared} texts");
-    for (source, numbers) in SOURCES.iter().zip(&numbers) {
-        let name = source.name;
+    for (format, numbers) in FORMATS.iter().zip(&numbers) {
+        let name = format.name;
         let numbers = numbers.complete();
         let numbers = numbers.map_err(|error| format!("rows of {name}: {error}"))?;
         report += &format!("; rows of {name}: {numbers}");

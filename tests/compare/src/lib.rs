@@ -2,12 +2,14 @@
 //!
 //! `loads` and `writes` call both with the same arguments and compare all that
 //! comes back. `properties` asks of the library alone what must hold of texts
-//! that are loaded and written again. `answers` compares whole answers, by way
-//! of the program `vectors`. `examples` holds the files of the examples folder
-//! to the second reading.
+//! that are loaded and written again. These take the format, S-records or tapes
+//! (`format`). `answers` compares whole answers, by way of the program
+//! `vectors`. `examples` holds the files of the examples folder to the second
+//! reading.
 
 pub mod answers;
 pub mod examples;
+pub mod format;
 pub mod loads;
 pub mod properties;
 pub mod settings;
@@ -17,5 +19,6 @@ mod content;
 mod guarded;
 mod library;
 mod tally;
+mod texts;
 
 pub use guarded::guards_notice;

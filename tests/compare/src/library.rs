@@ -1,4 +1,6 @@
-//! The library's two functions, as include/srec.h declares them.
+//! The library's functions, as include/srec.h declares them.
+
+type LoadOfC = unsafe extern "C" fn(*const u8, usize, u32, *mut u8, usize, *mut u8, usize) -> u32;
 
 extern "C" {
     fn srec_load(
@@ -23,14 +25,48 @@ extern "C" {
         out: *mut u8,
         out_len: usize,
     ) -> usize;
+
+    fn srec_load_tape(
+        text: *const u8,
+        text_len: usize,
+        base: u32,
+        memory: *mut u8,
+        memory_len: usize,
+        marks: *mut u8,
+        marks_len: usize,
+    ) -> u32;
+
+    fn srec_write_tape(
+        base: u32,
+        memory: *const u8,
+        memory_len: usize,
+        marks: *const u8,
+        marks_len: usize,
+        out: *mut u8,
+        out_len: usize,
+    ) -> usize;
 }
 
-/// Loads a text: 0, or the number of the row that refuses it.
+/// Text, base, memory and marks; gives 0, or the number of the row that refuses it.
+pub type Load = fn(&[u8], u32, &mut [u8], &mut [u8]) -> u32;
+
+/// Base, memory, marks, header, entry and output; gives the length, or 0 if a row
+/// refuses it.
+pub type Write = fn(u32, &[u8], &[u8], &[u8], Option<u32>, &mut [u8]) -> usize;
+
 pub fn load(text: &[u8], base: u32, memory: &mut [u8], marks: &mut [u8]) -> u32 {
+    load_by(srec_load, text, base, memory, marks)
+}
+
+pub fn load_tape(text: &[u8], base: u32, memory: &mut [u8], marks: &mut [u8]) -> u32 {
+    load_by(srec_load_tape, text, base, memory, marks)
+}
+
+fn load_by(load: LoadOfC, text: &[u8], base: u32, memory: &mut [u8], marks: &mut [u8]) -> u32 {
     // SAFETY: each pointer goes with the length of its own slice, and slices
     // that can be changed overlap no other.
     unsafe {
-        srec_load(
+        load(
             text.as_ptr(),
             text.len(),
             base,
@@ -42,13 +78,13 @@ pub fn load(text: &[u8], base: u32, memory: &mut [u8], marks: &mut [u8]) -> u32 
     }
 }
 
-/// Writes the canonical text: its length, or 0 if a row refuses it.
+/// C has no way to leave the entry out: it gives 0 for one that is absent.
 pub fn write(
     base: u32,
     memory: &[u8],
     marks: &[u8],
     header: &[u8],
-    entry: u32,
+    entry: Option<u32>,
     out: &mut [u8],
 ) -> usize {
     // SAFETY: as above; only `out` can be changed.
@@ -61,7 +97,30 @@ pub fn write(
             marks.len(),
             header.as_ptr(),
             header.len(),
-            entry,
+            entry.unwrap_or(0),
+            out.as_mut_ptr(),
+            out.len(),
+        )
+    }
+}
+
+/// C can give neither a header nor an entry to a tape.
+pub fn write_tape(
+    base: u32,
+    memory: &[u8],
+    marks: &[u8],
+    _: &[u8],
+    _: Option<u32>,
+    out: &mut [u8],
+) -> usize {
+    // SAFETY: as above.
+    unsafe {
+        srec_write_tape(
+            base,
+            memory.as_ptr(),
+            memory.len(),
+            marks.as_ptr(),
+            marks.len(),
             out.as_mut_ptr(),
             out.len(),
         )

@@ -1,54 +1,56 @@
 //! Writes, by the library and by the second reading.
 
+use crate::format::Format;
 use crate::guarded::Guarded;
-use crate::library;
 use crate::loads;
 use crate::settings::Settings;
 use crate::tally::Tally;
-use second::cases::{large_write_cases, write_case, Limits, LoadCase, WriteCase, FULL, SMALL};
+use second::cases::{Limits, LoadCase, WriteCase};
 use second::random::Random;
-use second::reading;
 
-pub fn full(settings: &Settings) -> Result<String, String> {
-    drawn(settings.seed, settings.share(25), FULL)
+pub fn full(format: &Format, settings: &Settings) -> Result<String, String> {
+    let cases = format.share(settings, 25);
+    drawn(format, settings.seed, cases, format.full)
 }
 
-pub fn small(settings: &Settings) -> Result<String, String> {
-    drawn(!settings.seed, settings.share(15), SMALL)
+pub fn small(format: &Format, settings: &Settings) -> Result<String, String> {
+    let cases = format.share(settings, 15);
+    drawn(format, !settings.seed, cases, format.small)
 }
 
-fn drawn(seed: u64, cases: u64, limits: Limits) -> Result<String, String> {
-    let mut numbers = Tally::of([0, 1, 15, 16, 17]);
-    let mut terminators = Tally::of([7, 8, 9]);
+fn drawn(format: &Format, seed: u64, cases: u64, limits: Limits) -> Result<String, String> {
+    let mut numbers = Tally::of(format.write_numbers.iter().copied());
+    let mut last_kinds = Tally::of(format.last_kinds.iter().copied());
     for index in 0..cases {
-        let case = write_case(seed, index, limits);
-        let written = compare(&case, seed ^ index).map_err(|error| {
+        let case = format.write_from_c(seed, index, limits);
+        let written = compare(format, &case, seed ^ index).map_err(|error| {
             let case = describe(&case);
             format!("seed {seed}, index {index}: {error}\n{case}")
         })?;
         numbers.add(written.number);
-        if let Some(kind) = terminator(&written.text) {
-            terminators.add(kind);
+        if let Some(kind) = last_kind(&written.text) {
+            last_kinds.add(kind);
         }
     }
-    let (numbers, terminators) = (numbers.complete()?, terminators.complete()?);
+    let (numbers, last_kinds) = (numbers.complete()?, last_kinds.complete()?);
     Ok(format!(
-        "{cases} cases; rows: {numbers}; terminators: {terminators}"
+        "{cases} cases; rows: {numbers}; kinds of the last line: {last_kinds}"
     ))
 }
 
-/// The type of the last record of a text that was written.
-fn terminator(text: &[u8]) -> Option<u8> {
+/// The digit behind the first character of the last line of a text that was
+/// written.
+fn last_kind(text: &[u8]) -> Option<u8> {
     let last = text.split(|&c| c == b'\n').rfind(|line| !line.is_empty());
     last.map(|line| line[1] - b'0')
 }
 
-/// More records than an S5 can count; the texts are loaded again.
-pub fn large(settings: &Settings) -> Result<String, String> {
-    let mut numbers = Tally::of([0, 17]);
-    for (index, case) in large_write_cases(settings.seed).iter().enumerate() {
+/// About as many lines as can be counted, and more; the texts are loaded again.
+pub fn large(format: &Format, settings: &Settings) -> Result<String, String> {
+    let mut numbers = Tally::of(format.large_write_numbers.iter().copied());
+    for (index, case) in (format.large_writes)(settings.seed).iter().enumerate() {
         let in_case = |error| format!("index {index}: {error}");
-        let written = compare(case, index as u64).map_err(in_case)?;
+        let written = compare(format, case, index as u64).map_err(in_case)?;
         numbers.add(written.number);
         if written.number == 0 {
             let again = LoadCase {
@@ -57,7 +59,7 @@ pub fn large(settings: &Settings) -> Result<String, String> {
                 memory: vec![0; case.memory.len()],
                 marks: vec![1; case.marks.len()],
             };
-            let number = loads::compare(&again, index as u64).map_err(in_case)?;
+            let number = loads::compare(format, &again, index as u64).map_err(in_case)?;
             if number != 0 {
                 return Err(format!(
                     "index {index}: its text is refused by row {number}"
@@ -69,22 +71,28 @@ pub fn large(settings: &Settings) -> Result<String, String> {
 }
 
 /// Buffers that are only read may be one and the same.
-pub fn shared_inputs(settings: &Settings) -> Result<String, String> {
+pub fn shared_inputs(format: &Format, settings: &Settings) -> Result<String, String> {
     let random = &mut Random::new(settings.seed, 2);
     let cases = 1_000;
     for _ in 0..cases {
         let length = random.size(0, 252);
         let bits: Vec<u8> = (0..length).map(|_| random.byte() % 2).collect();
-        let base = random.pick(&[0, 0xFFF5, 0xFF_FFF5, 0xFFFF_FF00]);
+        let base = random.pick(&[0, 0xFF04, 0xFFF5, 0xFF_FFF5, 0xFFFF_FF00]);
         let shared = Guarded::new(random, &bits);
-        let text = reading::canonical(base, &bits, &bits, &bits, base);
-        let mut out = Guarded::unset(random, text.len());
         let bytes = shared.bytes();
-        let found = library::write(base, bytes, bytes, bytes, base, out.bytes_mut());
-        if found != text.len() {
-            return Err(format!("the library answers {found}, not {}", text.len()));
+        let header = if format.has_entry { bytes } else { &[] };
+        let entry = format.has_entry.then_some(base);
+        let mut out = Guarded::unset(random, format.enough(length, length));
+        let mut wanted = out.bytes().to_vec();
+        let found = (format.write)(base, bytes, bytes, header, entry, out.bytes_mut());
+        let written = (format.wanted_write)(base, &bits, &bits, header, entry, &mut wanted);
+        if found != written.length {
+            return Err(format!(
+                "the library answers {found}, not {}",
+                written.length
+            ));
         }
-        out.expect("output", &text)?;
+        out.expect("output", &wanted)?;
         shared.expect("shared buffer", &bits)?;
     }
     Ok(format!("{cases} cases"))
@@ -96,34 +104,28 @@ struct Written {
     text: Vec<u8>,
 }
 
-/// From C an entry is always present. A case without one is tried with its
-/// base for an entry, and all rows of it but 18 still apply.
-fn entry(case: &WriteCase) -> u32 {
-    case.entry.unwrap_or(case.base)
-}
-
 /// Compares the two answers and everything they leave.
-fn compare(case: &WriteCase, layout: u64) -> Result<Written, String> {
+fn compare(format: &Format, case: &WriteCase, layout: u64) -> Result<Written, String> {
     let random = &mut Random::new(layout, 2);
     let memory = Guarded::new(random, &case.memory);
     let marks = Guarded::new(random, &case.marks);
     let header = Guarded::new(random, &case.header);
     let mut out = Guarded::unset(random, case.room);
     let mut wanted = out.bytes().to_vec();
-    let length = library::write(
+    let length = (format.write)(
         case.base,
         memory.bytes(),
         marks.bytes(),
         header.bytes(),
-        entry(case),
+        case.entry,
         out.bytes_mut(),
     );
-    let written = reading::write(
+    let written = (format.wanted_write)(
         case.base,
         &case.memory,
         &case.marks,
         &case.header,
-        Some(entry(case)),
+        case.entry,
         &mut wanted,
     );
     if length != written.length {
@@ -145,12 +147,7 @@ fn compare(case: &WriteCase, layout: u64) -> Result<Written, String> {
 
 fn describe(case: &WriteCase) -> String {
     format!(
-        "base {:X}, memory {:02X?}\nmarks {:?}\nheader {:02X?}\nentry {:X}, room {}",
-        case.base,
-        case.memory,
-        case.marks,
-        case.header,
-        entry(case),
-        case.room
+        "base {:X}, memory {:02X?}\nmarks {:?}\nheader {:02X?}\nentry {:X?}, room {}",
+        case.base, case.memory, case.marks, case.header, case.entry, case.room
     )
 }
