@@ -56,6 +56,27 @@ static void put_record(struct text *text, char kind, unsigned width, size_t addr
     text->chars[text->length++] = '\n';
 }
 
+/* A line of a tape. Without data it is the last one, with the number of data lines for an address and for a check. */
+static void put_line(struct text *text, size_t address, const uint8_t *data, size_t count)
+{
+    unsigned sum = (unsigned)(count + (address >> 8) + (address & 255));
+
+    text->chars[text->length++] = ';';
+    put_byte(text, (unsigned)count);
+    put_byte(text, (unsigned)(address >> 8));
+    put_byte(text, (unsigned)address);
+    for (size_t i = 0; i < count; i++) {
+        sum += data[i];
+        put_byte(text, data[i]);
+    }
+    if (count == 0)
+        sum = (unsigned)address;
+    put_byte(text, sum >> 8);
+    put_byte(text, sum);
+    text->chars[text->length++] = '\r';
+    text->chars[text->length++] = '\n';
+}
+
 /* Random bytes that depend on the record's number alone, so that each order has the same data. */
 static void draw_data(uint8_t data[256], size_t number)
 {
@@ -127,6 +148,50 @@ struct text generate(enum order order, size_t bytes, size_t size)
     if (records <= LARGEST_COUNT)
         put_record(&text, '5', 2, records, NULL, 0);
     put_record(&text, '7', 4, 0, NULL, 0);
+    free(numbers);
+    return text;
+}
+
+/* So many data bytes, rounded up to whole blocks. */
+static uint8_t *draw_cells(size_t bytes)
+{
+    uint8_t *cells = allocate(bytes + 255);
+
+    for (size_t i = 0; i < bytes; i += 256)
+        draw_data(cells + i, i);
+    return cells;
+}
+
+/* What stands behind the data. */
+static void put_end(struct text *text, enum layout layout, size_t records)
+{
+    if (layout == TAPE_LINES) {
+        put_line(text, records, NULL, 0);
+        return;
+    }
+    put_record(text, '5', 2, records, NULL, 0);
+    put_record(text, '9', 2, 0, NULL, 0);
+}
+
+struct text generate_cells(enum layout layout, enum order order, size_t bytes, size_t size)
+{
+    size_t records = (bytes + size - 1) / size;
+    struct text text = start(records, bytes, bytes, room_for(1, bytes));
+    uint32_t *numbers = draw_order(order, records);
+    uint8_t *cells = draw_cells(bytes);
+
+    if (layout == S1_RECORDS)
+        put_record(&text, '0', 2, 0, header, sizeof header);
+    for (size_t i = 0; i < records; i++) {
+        size_t address = numbers[i] * size, left = bytes - address, count = left < size ? left : size;
+        text.last = text.length;
+        if (layout == TAPE_LINES)
+            put_line(&text, address, cells + address, count);
+        else
+            put_record(&text, '1', 2, address, cells + address, count);
+    }
+    put_end(&text, layout, records);
+    free(cells);
     free(numbers);
     return text;
 }

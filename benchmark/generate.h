@@ -1,4 +1,4 @@
-/* generate.h: S-record texts to measure with, the same ones in every run. */
+/* generate.h: S-record texts and tapes to measure with, the same ones in every run. */
 #ifndef GENERATE_H
 #define GENERATE_H
 
@@ -17,12 +17,17 @@ struct text {
     size_t last;  /* where the last data record starts */
 };
 
-/* Every text but a line has this header and entry 0. */
+/* Every text but a line and a tape has this header and entry 0. */
 extern const uint8_t header[3];
 
 /* A text of so many data bytes, at least 1, in S3 records of `size` data bytes, 1 to 250; the last may be shorter. Ends
  * the program if memory is short. The characters are the caller's to free. */
 struct text generate(enum order order, size_t bytes, size_t size);
+
+/* The same for cells from address 0 on, at most 65,536, in lines of a tape or in S1 records. A cell's byte depends on its
+ * address alone. In order the tape is canonical with lines of 24 data bytes, the text with records of 16. */
+enum layout { TAPE_LINES, S1_RECORDS };
+struct text generate_cells(enum layout layout, enum order order, size_t bytes, size_t size);
 
 /* The same for a header, two data records of 16 bytes from address 0 on and a terminator. */
 struct text generate_small(void);

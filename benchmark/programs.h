@@ -53,4 +53,7 @@ void print_round(long round, long rounds);
 void refusals(int quick, long rounds);
 void small_loads(long rounds);
 
+/* tapes.c: the library's tapes beside its S-records. */
+void tapes(long rounds);
+
 #endif

@@ -91,6 +91,7 @@ compile tuned tuned
 compile generate generate
 compile programs programs
 compile loads loads
+compile tapes tapes
 compile compare compare
 
 gcc --version | head -n 1
