@@ -26,14 +26,17 @@ struct buffers {
 
 static uint32_t load(int kind, const struct text *text, struct buffers *buffers)
 {
-    return (kind == TAPE ? srec_load_tape : srec_load)(text->chars, text->length, BASE, buffers->memory, BYTES,
-                                                       buffers->marks, BYTES);
+    if (kind == TAPE)
+        return srec_load_tape(SREC_REPEAT, text->chars, text->length, BASE, buffers->memory, BYTES, buffers->marks,
+                              BYTES);
+    return srec_load(text->chars, text->length, BASE, buffers->memory, BYTES, buffers->marks, BYTES);
 }
 
 static size_t write_cells(int kind, struct buffers *buffers)
 {
     if (kind == TAPE)
-        return srec_write_tape(BASE, buffers->memory, BYTES, buffers->marks, BYTES, buffers->out, buffers->room);
+        return srec_write_tape(SREC_REPEAT, BASE, buffers->memory, BYTES, buffers->marks, BYTES, buffers->out,
+                               buffers->room);
     return srec_write(BASE, buffers->memory, BYTES, buffers->marks, BYTES, header, sizeof header, 0, buffers->out,
                       buffers->room);
 }

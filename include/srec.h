@@ -67,28 +67,39 @@ uint32_t srec_load(const uint8_t *text, size_t text_len, uint32_t base, uint8_t 
 size_t srec_write(uint32_t base, const uint8_t *memory, size_t memory_len, const uint8_t *marks, size_t marks_len,
                   const uint8_t *header, size_t header_len, uint32_t entry, uint8_t *out, size_t out_len);
 
-/* Loads a paper tape into a window. Returns 0 if the tape is accepted, else the number of the row that refuses it: 1 to 7
- * or 10 to 14, never 8 and 9. Row 3 is for a line of more than 521 characters, row 10 for a last line with another number
- * than that of the data lines before it, row 11 for data above FFFF, row 14 for a tape without a last line.
+/* The editions of a paper tape: what its last line has for a check. Both load and write the same tapes of fewer than 256
+ * data lines. */
+enum {
+    SREC_REPEAT = 0, /* its number again */
+    SREC_SUM = 1     /* the sum of its bytes, as the KIM-1 manual asks for */
+};
+
+/* Loads a paper tape of an edition into a window. Returns 0 if the tape is accepted, else the number of the row that
+ * refuses it: 1 to 7 or 10 to 14, never 8 and 9. Row 3 is for a line of more than 521 characters, row 7 for a check that is
+ * wrong, of the last line by the edition, row 10 for a last line with another number than that of the data lines before it,
+ * row 11 for data above FFFF, row 14 for a tape without a last line.
  *
+ *   edition               SREC_REPEAT; any other number is taken for SREC_SUM
  *   text, text_len        the tape; lines end in CR, LF, NUL or XOFF (13 hex), and the last need not end
  *   base                  the address of memory[0]; the window may pass FFFF, or lie above it
  *   memory, memory_len    as for srec_load
  *   marks, marks_len      as for srec_load
  */
-uint32_t srec_load_tape(const uint8_t *text, size_t text_len, uint32_t base, uint8_t *memory, size_t memory_len,
-                        uint8_t *marks, size_t marks_len);
+uint32_t srec_load_tape(uint32_t edition, const uint8_t *text, size_t text_len, uint32_t base, uint8_t *memory,
+                        size_t memory_len, uint8_t *marks, size_t marks_len);
 
-/* Writes the canonical tape of a window at the start of out. Returns its length, or 0 if a row (1, 16, 11 or 17) refuses
- * it; a canonical tape is never empty. After a refusal out is unchanged. Bytes of out behind the tape are unchanged.
- * Row 11 is for a marked cell above FFFF. A tape has no header and no entry, and none can be given: row 19 never comes up.
+/* Writes the canonical tape of a window, in an edition, at the start of out. Returns its length, or 0 if a row (1, 16, 11
+ * or 17) refuses it; a canonical tape is never empty. After a refusal out is unchanged. Bytes of out behind the tape are
+ * unchanged. Row 11 is for a marked cell above FFFF. A tape has no header and no entry, and none can be given: row 19
+ * never comes up.
  *
+ *   edition                                      as for srec_load_tape
  *   base, memory, memory_len, marks, marks_len   the window; each mark is 0 or 1
  *   out, out_len                                 13 * (lines + 1) + 2 * cells bytes are always enough, where lines is at
  *                                                most cells
  */
-size_t srec_write_tape(uint32_t base, const uint8_t *memory, size_t memory_len, const uint8_t *marks, size_t marks_len,
-                       uint8_t *out, size_t out_len);
+size_t srec_write_tape(uint32_t edition, uint32_t base, const uint8_t *memory, size_t memory_len, const uint8_t *marks,
+                       size_t marks_len, uint8_t *out, size_t out_len);
 
 /* The words for a row, or for 0; NULL for a number that is no row. No function here gives rows 18 and 19. */
 static inline const char *srec_reason(unsigned number)

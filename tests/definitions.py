@@ -20,7 +20,14 @@ from pathlib import Path
 ROOT = Path(__file__).resolve().parent.parent
 CRATES = ("lists", "hex", "window", "text", "srec", "tape")
 # the sides that the oracle draws cases of, each with the format whose definitions it is held to
-SIDES = {"load": "srec", "write": "srec", "load-tape": "tape", "write-tape": "tape"}
+SIDES = {
+    "load": "srec",
+    "write": "srec",
+    "load-tape": "(tape Repeat)",
+    "write-tape": "(tape Repeat)",
+    "load-tape-sum": "(tape Sum)",
+    "write-tape-sum": "(tape Sum)",
+}
 # of so many drawn cases of a side, so many of each refusal and of the accepted ones: some refusals are rarely drawn
 DRAWN, REFUSED, ACCEPTED = 3000, 30, 100
 # what an output holds before a write: no character of a text
@@ -98,6 +105,7 @@ use lib.Dec.{T}
 use lib.ListN.{replicate}
 use Rattle.window.specs.declared.Entry.the-variants.{Absent, Present}
 use Rattle.srec.specs.Formats.{srec}
+use Rattle.tape.specs.declared.Edition.the-variants.{Repeat, Sum}
 use Rattle.tape.specs.Formats.{tape}
 use Rattle.sense.specs.Comparison.{agrees}
 use Rattle.sense.specs.Comparison.Case.{loads, writes}
@@ -233,7 +241,7 @@ def refused(cases):
         return []
     said = ran.stdout + ran.stderr
     errors = re.findall(r"error: (.*)", said)
-    names = [error.split("`")[1] for error in errors if re.match(r"`(load|write)(-tape)?-\d+`:", error)]
+    names = [error.split("`")[1] for error in errors if re.match(r"`(load|write)(-tape)?(-sum)?-\d+`:", error)]
     # any other error can hide statements that were not computed
     if not names or len(names) != len(errors):
         raise Stopped(f"the checker did not come to compute the cases\n{said}")

@@ -88,17 +88,17 @@ static void load_tapes(void)
     uint8_t memory[2] = {8, 9};
     uint8_t marks[2] = {5, 1};
 
-    CHECK(srec_load_tape(NULL, 0, 0, memory, 2, marks, 2) == 14);
+    CHECK(srec_load_tape(SREC_REPEAT, NULL, 0, 0, memory, 2, marks, 2) == 14);
     CHECK(memory[0] == 8 && memory[1] == 9);
     CHECK(marks[0] == 0 && marks[1] == 0);
-    CHECK(srec_load_tape(NULL, 0, 0, NULL, 0, NULL, 0) == 14);
-    CHECK(srec_load_tape(last_line, sizeof last_line, 0, NULL, 0, NULL, 0) == 0);
-    CHECK(srec_load_tape(last_line, sizeof last_line, UINT32_MAX, NULL, 0, NULL, 0) == 0);
-    CHECK(srec_load_tape(tape_cell, TAPE_CELL, 0, NULL, 0, NULL, 0) == 12);
+    CHECK(srec_load_tape(SREC_REPEAT, NULL, 0, 0, NULL, 0, NULL, 0) == 14);
+    CHECK(srec_load_tape(SREC_REPEAT, last_line, sizeof last_line, 0, NULL, 0, NULL, 0) == 0);
+    CHECK(srec_load_tape(SREC_REPEAT, last_line, sizeof last_line, UINT32_MAX, NULL, 0, NULL, 0) == 0);
+    CHECK(srec_load_tape(SREC_REPEAT, tape_cell, TAPE_CELL, 0, NULL, 0, NULL, 0) == 12);
     marks[1] = 1;
-    CHECK(srec_load_tape(last_line, sizeof last_line, 0, NULL, 0, marks, 2) == 1);
+    CHECK(srec_load_tape(SREC_REPEAT, last_line, sizeof last_line, 0, NULL, 0, marks, 2) == 1);
     CHECK(marks[0] == 0 && marks[1] == 0);
-    CHECK(srec_load_tape(last_line, sizeof last_line, 0, memory, 2, NULL, 0) == 1);
+    CHECK(srec_load_tape(SREC_REPEAT, last_line, sizeof last_line, 0, memory, 2, NULL, 0) == 1);
     CHECK(memory[0] == 8 && memory[1] == 9);
 }
 
@@ -108,15 +108,15 @@ static void write_tapes(void)
     const uint8_t marks[] = {1};
     uint8_t out[TAPE_CELL] = {0};
 
-    CHECK(srec_write_tape(7, NULL, 0, NULL, 0, out, SHORTEST_TAPE) == SHORTEST_TAPE);
+    CHECK(srec_write_tape(SREC_REPEAT, 7, NULL, 0, NULL, 0, out, SHORTEST_TAPE) == SHORTEST_TAPE);
     CHECK(memcmp(out, shortest_tape, SHORTEST_TAPE) == 0);
-    CHECK(srec_write_tape(UINT32_MAX, NULL, 0, NULL, 0, out, SHORTEST_TAPE) == SHORTEST_TAPE);
-    CHECK(srec_write_tape(0, memory, 1, marks, 1, out, sizeof out) == TAPE_CELL);
+    CHECK(srec_write_tape(SREC_REPEAT, UINT32_MAX, NULL, 0, NULL, 0, out, SHORTEST_TAPE) == SHORTEST_TAPE);
+    CHECK(srec_write_tape(SREC_REPEAT, 0, memory, 1, marks, 1, out, sizeof out) == TAPE_CELL);
     CHECK(memcmp(out, tape_cell, TAPE_CELL) == 0);
-    CHECK(srec_write_tape(0, memory, 1, marks, 1, NULL, 0) == 0);
-    CHECK(srec_write_tape(0, NULL, 0, NULL, 0, NULL, 0) == 0);
-    CHECK(srec_write_tape(0, memory, 1, NULL, 0, out, sizeof out) == 0);
-    CHECK(srec_write_tape(0, NULL, 0, marks, 1, out, sizeof out) == 0);
+    CHECK(srec_write_tape(SREC_REPEAT, 0, memory, 1, marks, 1, NULL, 0) == 0);
+    CHECK(srec_write_tape(SREC_REPEAT, 0, NULL, 0, NULL, 0, NULL, 0) == 0);
+    CHECK(srec_write_tape(SREC_REPEAT, 0, memory, 1, NULL, 0, out, sizeof out) == 0);
+    CHECK(srec_write_tape(SREC_REPEAT, 0, NULL, 0, marks, 1, out, sizeof out) == 0);
 }
 
 int main(void)

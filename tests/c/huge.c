@@ -52,11 +52,11 @@ static void refused_unseen_for_tapes(void)
     uint8_t marks[4] = {1, 1, 1, 1};
     uint8_t out[100];
 
-    CHECK(srec_load_tape(last_line, sizeof last_line, 0, hidden, TOP + 4, marks, 4) == 1);
+    CHECK(srec_load_tape(SREC_REPEAT, last_line, sizeof last_line, 0, hidden, TOP + 4, marks, 4) == 1);
     CHECK(marks[0] == 0 && marks[3] == 0);
-    CHECK(srec_write_tape(0, hidden, TOP + 1, hidden, TOP + 1, out, sizeof out) == 0);
-    CHECK(srec_write_tape(1, hidden, TOP, hidden, TOP, out, sizeof out) == 0);
-    CHECK(srec_write_tape(0, hidden, TOP + 4, marks, 4, out, sizeof out) == 0);
+    CHECK(srec_write_tape(SREC_REPEAT, 0, hidden, TOP + 1, hidden, TOP + 1, out, sizeof out) == 0);
+    CHECK(srec_write_tape(SREC_REPEAT, 1, hidden, TOP, hidden, TOP, out, sizeof out) == 0);
+    CHECK(srec_write_tape(SREC_REPEAT, 0, hidden, TOP + 4, marks, 4, out, sizeof out) == 0);
     munmap(hidden, length);
 }
 
@@ -75,7 +75,7 @@ static void long_tape(void)
     uint8_t *text = reserve(TOP, PROT_READ | PROT_WRITE);
 
     text[0] = 'x';
-    CHECK(srec_load_tape(text, TOP, 0, NULL, 0, NULL, 0) == 4);
+    CHECK(srec_load_tape(SREC_REPEAT, text, TOP, 0, NULL, 0, NULL, 0) == 4);
     munmap(text, TOP);
 }
 
@@ -92,7 +92,7 @@ static void large_output_of_a_tape(void)
 {
     uint8_t *out = reserve(TOP, PROT_READ | PROT_WRITE);
 
-    CHECK(srec_write_tape(0, NULL, 0, NULL, 0, out, TOP) == 13);
+    CHECK(srec_write_tape(SREC_REPEAT, 0, NULL, 0, NULL, 0, out, TOP) == 13);
     CHECK(memcmp(out, ";0000000000\r\n", 14) == 0);
     munmap(out, TOP);
 }
@@ -110,11 +110,11 @@ static void whole_window(void)
     marks[TOP - 1] = 1;
     CHECK(srec_write(0, memory, TOP, marks, TOP, NULL, 0, 0, out, sizeof out) == sizeof text - 1);
     CHECK(memcmp(out, text, sizeof text - 1) == 0);
-    CHECK(srec_write_tape(0, memory, TOP, marks, TOP, out, sizeof out) == 0);
+    CHECK(srec_write_tape(SREC_REPEAT, 0, memory, TOP, marks, TOP, out, sizeof out) == 0);
     marks[TOP - 1] = 0;
     memory[0xFFFF] = 0xA5;
     marks[0xFFFF] = 1;
-    CHECK(srec_write_tape(0, memory, TOP, marks, TOP, out, sizeof out) == sizeof tape - 1);
+    CHECK(srec_write_tape(SREC_REPEAT, 0, memory, TOP, marks, TOP, out, sizeof out) == sizeof tape - 1);
     CHECK(memcmp(out, tape, sizeof tape - 1) == 0);
     munmap(memory, TOP);
     munmap(marks, TOP);

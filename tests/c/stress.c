@@ -234,12 +234,18 @@ static size_t write_records(const struct window *window, const struct text *head
                       header->length, 0x1234, out, room);
 }
 
+static uint32_t load_tape(const uint8_t *text, size_t text_len, uint32_t base, uint8_t *memory, size_t memory_len,
+                          uint8_t *marks, size_t marks_len)
+{
+    return srec_load_tape(SREC_REPEAT, text, text_len, base, memory, memory_len, marks, marks_len);
+}
+
 /* A tape has no header. */
 static size_t write_tape(const struct window *window, const struct text *header, uint8_t *out, size_t room)
 {
     (void)header;
-    return srec_write_tape(window->base, window->memory, window->length, window->marks, window->marks_length, out,
-                           room);
+    return srec_write_tape(SREC_REPEAT, window->base, window->memory, window->length, window->marks,
+                           window->marks_length, out, room);
 }
 
 /* `others` are the characters besides the header and the data lines, `line` those of a line besides its data, and
@@ -257,7 +263,7 @@ enum { RECORDS, TAPES, FORMATS };
 
 static const struct format formats[FORMATS] = {
     {"S-records", draw_records, srec_load, write_records, 37, 15, 33, 1 << 9},
-    {"tapes", draw_tape, srec_load_tape, write_tape, 13, 13, 13, 1 << 8 | 1 << 9},
+    {"tapes", draw_tape, load_tape, write_tape, 13, 13, 13, 1 << 8 | 1 << 9},
 };
 
 static uint32_t load(const struct format *format, struct window *window, const struct text *text)

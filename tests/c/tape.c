@@ -1,4 +1,5 @@
-/* tape: a small tape is loaded and written again, also by way of S-records, and refusals leave buffers as they must. */
+/* tape: a small tape is loaded and written again, also by way of S-records, refusals leave buffers as they must, and the
+ * editions differ where they should. */
 #include <string.h>
 
 #include "check.h"
@@ -29,12 +30,13 @@ static struct window filled_window(void)
 
 static uint32_t load_tape(struct window *window, const char *text, size_t length)
 {
-    return srec_load_tape((const uint8_t *)text, length, BASE, window->memory, CELLS, window->marks, CELLS);
+    return srec_load_tape(SREC_REPEAT, (const uint8_t *)text, length, BASE, window->memory, CELLS, window->marks,
+                          CELLS);
 }
 
 static size_t write_tape(const struct window *window, uint8_t *out, size_t room)
 {
-    return srec_write_tape(BASE, window->memory, CELLS, window->marks, CELLS, out, room);
+    return srec_write_tape(SREC_REPEAT, BASE, window->memory, CELLS, window->marks, CELLS, out, room);
 }
 
 /* The cells of the tape above, and nothing else. */
@@ -123,9 +125,9 @@ static void refused_window(void)
     struct window window = filled_window();
     const uint8_t *text = (const uint8_t *)tape;
 
-    CHECK(srec_load_tape(text, TAPE, BASE, window.memory, CELLS, window.marks, CELLS - 1) == 1);
+    CHECK(srec_load_tape(SREC_REPEAT, text, TAPE, BASE, window.memory, CELLS, window.marks, CELLS - 1) == 1);
     CHECK(window.memory[0] == FILL && window.marks[0] == 0 && window.marks[CELLS - 1] == FILL);
-    CHECK(srec_load_tape(text, TAPE, UINT32_MAX, window.memory, 2, window.marks, 2) == 1);
+    CHECK(srec_load_tape(SREC_REPEAT, text, TAPE, UINT32_MAX, window.memory, 2, window.marks, 2) == 1);
 }
 
 /* The output is as before. */
@@ -134,7 +136,7 @@ static void check_not_written(const struct window *window, size_t marks_len, siz
     uint8_t out[CANONICAL];
 
     memset(out, FILL, sizeof out);
-    CHECK(srec_write_tape(BASE, window->memory, CELLS, window->marks, marks_len, out, room) == 0);
+    CHECK(srec_write_tape(SREC_REPEAT, BASE, window->memory, CELLS, window->marks, marks_len, out, room) == 0);
     for (size_t i = 0; i < sizeof out; i++)
         CHECK(out[i] == FILL);
 }
@@ -157,6 +159,43 @@ static void refused_writes(void)
     CHECK(write_tape(&window, out, CANONICAL) == CANONICAL);
 }
 
+/* A last line for 256 data lines has another check in each edition; below 256 both are the same. */
+static void editions(void)
+{
+    static const uint8_t again[] = ";0001000100", sum[] = ";0001000001";
+    struct window window = filled_window();
+    uint8_t out[CANONICAL];
+
+    CHECK(srec_load_tape(SREC_REPEAT, again, sizeof again - 1, 0, NULL, 0, NULL, 0) == 10);
+    CHECK(srec_load_tape(SREC_REPEAT, sum, sizeof sum - 1, 0, NULL, 0, NULL, 0) == 7);
+    CHECK(srec_load_tape(SREC_SUM, again, sizeof again - 1, 0, NULL, 0, NULL, 0) == 7);
+    CHECK(srec_load_tape(SREC_SUM, sum, sizeof sum - 1, 0, NULL, 0, NULL, 0) == 10);
+    CHECK(srec_load_tape(UINT32_MAX, sum, sizeof sum - 1, 0, NULL, 0, NULL, 0) == 10);
+    CHECK(srec_load_tape(SREC_SUM, (const uint8_t *)tape, TAPE, BASE, window.memory, CELLS, window.marks, CELLS) == 0);
+    check_cells(&window);
+    CHECK(srec_write_tape(SREC_SUM, BASE, window.memory, CELLS, window.marks, CELLS, out, CANONICAL) == CANONICAL);
+    CHECK(memcmp(out, canonical, CANONICAL) == 0);
+}
+
+/* Every second cell of 512: 256 data lines, which the editions write apart. */
+static void written_apart(void)
+{
+    static uint8_t memory[512], marks[512], first[256 * 15 + 13], second[sizeof first];
+    const size_t length = sizeof first, last = length - 13;
+
+    for (size_t i = 0; i < sizeof marks; i += 2)
+        marks[i] = 1;
+    CHECK(srec_write_tape(SREC_REPEAT, 0, memory, 512, marks, 512, first, length) == length);
+    CHECK(srec_write_tape(SREC_SUM, 0, memory, 512, marks, 512, second, length) == length);
+    CHECK(memcmp(first, second, last) == 0);
+    CHECK(memcmp(first + last, ";0001000100\r\n", 13) == 0);
+    CHECK(memcmp(second + last, ";0001000001\r\n", 13) == 0);
+    CHECK(srec_load_tape(SREC_REPEAT, first, length, 0, memory, 512, marks, 512) == 0);
+    CHECK(srec_load_tape(SREC_SUM, first, length, 0, memory, 512, marks, 512) == 7);
+    CHECK(srec_load_tape(SREC_SUM, second, length, 0, memory, 512, marks, 512) == 0);
+    CHECK(srec_load_tape(SREC_REPEAT, second, length, 0, memory, 512, marks, 512) == 7);
+}
+
 int main(void)
 {
     load_and_write();
@@ -164,5 +203,7 @@ int main(void)
     refused_loads();
     refused_window();
     refused_writes();
+    editions();
+    written_apart();
     return failures != 0;
 }

@@ -46,9 +46,9 @@ unfolding write
 write-reasoned Records W h e room =
     either (row1 W) (record { got = lit< tt }) (either (row15 h) (record { got = lit< tt }) (either (row16 (W .marks)) (record { got = lit< tt })
     (either (row18 e) (record { got = lit< tt }) (last (textOf srec W h e) room))))
-write-reasoned Tape W h e room =
+write-reasoned (Tape edition) W h e room =
     either (row1 W) (record { got = lit< tt }) (either (row16 (W .marks)) (record { got = lit< tt }) (either (row19 h e) (record { got = lit< tt })
-    (either (row11Marks W) (record { got = lit< tt }) (last (textOf tape W h e) room))))
+    (either (row11Marks W) (record { got = lit< tt }) (last (textOf (tape edition) W h e) room))))
 
 -- a header's length is within its bytes
 pub header-fits : (F : Format) (W : Window) (text : List ℕ) → loaded F W text .header .len ≤ length (loaded F W text .header .bytes)

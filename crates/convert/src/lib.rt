@@ -33,11 +33,19 @@ fn write_as(
 {
     match format {
         Format::Records => srec_write::write(base, memory, marks, header, entry, out),
-        Format::Tape => tape_write::write(base, memory, marks, header, entry, out),
+        Format::Tape(edition) => tape_write::write(
+            edition,
+            base,
+            memory,
+            marks,
+            header,
+            entry,
+            out,
+        ),
     }
 }
 
-// Loads a text into a window, as `load` does, and writes what it left to the output.
+// Loads a text into a window, as `load_as` does, and writes what it left to the output.
 pub fn convert(
     format: Format,
     base: u32,

@@ -8,11 +8,12 @@ use Rattle.lists.proofs.PendingLaws.{Pending, pending-start, pending-room, pend
 use Rattle.window.specs.Windows.{windowOf}
 use Rattle.window.specs.Cells.{Cell, Run, shown}
 use Rattle.window.specs.Walks.{unmarked}
-use Rattle.text.specs.Runs.{runs, dataLines}
+use Rattle.text.specs.Runs.{dataLines}
 use Rattle.text.proofs.RunWalkLaws.{cellsFrom, NextAt, from-next, from-zero, from-end, EndsAt, runs-at}
 use Rattle.srec.specs.Kinds.Kind.{Data}
 use Rattle.srec_encode.specs.Records.{lineOf}
 use Rattle.srec_encode.proofs.EncodeLaws.{length-line as length-record, line-before as record-before}
+use Rattle.tape.specs.declared.Edition.{Edition}
 use Rattle.tape.specs.Canonical.{line}
 use Rattle.tape_encode.proofs.TapeEncodeLaws.{length-line as length-tape, line-before as tape-before}
 use Rattle.formats.specs.declared.Format.{Format}
@@ -29,7 +30,7 @@ pub line-before : (format : Format) (width : ℕ) (r : Run) (rest : List ℕ)
     → dataLineOf format width r rest ≡ runText format width (r .addr) (r .bytes) ++ rest
 line-before Records width r rest =
     record-before (Data width) (r .addr) (r .bytes) rest ∙ ap (λ (l : List ℕ). l ++ rest) (sym (record-text width (r .addr) (r .bytes)))
-line-before Tape width r rest = tape-before (r .addr) (r .bytes) rest
+line-before (Tape edition) width r rest = tape-before edition (r .addr) (r .bytes) rest
 
 -- ---- a line in the format that is told: what `put_run` writes
 
@@ -42,11 +43,11 @@ module _ (format : Format) (w a : ℕ) (ds : List ℕ) where
   record-length e = sym (length-record (47 + w) w a ds) ∙ ap length (record-chosen e)
 
   -- a line of a tape
-  pub tape-chosen : format ≡ Tape → line a ds [] ≡ runText format w a ds
-  tape-chosen e = ap (λ (x : Format). runText x w a ds) (sym e)
+  pub tape-chosen : (edition : Edition) → format ≡ Tape edition → line edition a ds [] ≡ runText format w a ds
+  tape-chosen edition e = ap (λ (x : Format). runText x w a ds) (sym e)
 
-  pub tape-length : format ≡ Tape → 13 + 2 * length ds ≡ length (runText format w a ds)
-  tape-length e = sym (length-tape a ds) ∙ ap length (tape-chosen e)
+  pub tape-length : (edition : Edition) → format ≡ Tape edition → 13 + 2 * length ds ≡ length (runText format w a ds)
+  tape-length edition e = sym (length-tape edition a ds) ∙ ap length (tape-chosen edition e)
 
 -- ---- the data lines, run by run
 

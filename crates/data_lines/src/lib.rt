@@ -32,7 +32,7 @@ fn put_run(
             let kind = DATA_TYPE + width as u8;
             srec_encode::put_line(out, at, kind, width, address, bytes)
         }
-        Format::Tape => tape_encode::put_line(out, at, address, bytes),
+        Format::Tape(edition) => tape_encode::put_line(edition, out, at, address, bytes),
     }
 }
 

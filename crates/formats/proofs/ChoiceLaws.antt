@@ -19,12 +19,12 @@ use Rattle.formats.specs.Choices.{formatOf, followOf}
 -- what its texts can hold
 abbrev pub limitsOf : Choice → Limits
 limitsOf Records = recordLimits
-limitsOf Tape = tapeLimits
+limitsOf (Tape edition) = tapeLimits
 
 -- it is lawful
 pub lawfulOf : (c : Choice) → Lawful (formatOf c) (limitsOf c)
 lawfulOf Records = recordsLawful
-lawfulOf Tape = tapesLawful
+lawfulOf (Tape edition) = tapesLawful edition
 
 -- the last test of a character between a tape's lines
 pub pause-last : (c : ℕ) → (c ≡ 13 → ⊥) → (c ≡ 10 → ⊥) → (c ≡ 0 → ⊥) → eqb c xoff ≡ isGap c
@@ -48,4 +48,4 @@ most-chosen format choice e a r q = q ∙ ap (λ (x : Choice). suc (followOf x a
 pub follow-small : (c : Choice) (a : ℕ) → followOf c a ≤ 23
 unfolding follow
 follow-small Records a = omega arith
-follow-small Tape a = omega arith
+follow-small (Tape edition) a = omega arith

@@ -13,14 +13,14 @@ use Rattle.formats.specs.declared.Format.the-variants.{Records, Tape}
 -- S-records, or tapes
 abbrev pub formatOf : Choice → Format
 formatOf Records = srec
-formatOf Tape = tape
+formatOf (Tape edition) = tape edition
 
 -- how many cells may follow the first of a data line
 abbrev pub followOf : Choice → ℕ → ℕ
 followOf Records = recordFollow
-followOf Tape = tapeFollow
+followOf (Tape edition) = tapeFollow
 
 -- a run as a data line before the rest of the text; a record has so many address bytes, a tape's line always two
 abbrev pub dataLineOf : Choice → ℕ → Run → List ℕ → List ℕ
 dataLineOf Records width = recordLine width
-dataLineOf Tape width = tapeLine
+dataLineOf (Tape edition) width = tapeLine edition

@@ -1,4 +1,5 @@
 // The formats of texts, by value: what stands between lines, and where data lines are cut. The theorems across formats are here, too.
+use tape::Edition;
 ghost use mathlib.Core.Path.{_≡_};
 ghost use Prim.Native.Nat.{suc};
 ghost use Rattle.srec.specs.Lines.{isEnd};
@@ -13,10 +14,10 @@ const ROW: usize = 16;
 
 const LINE: usize = 24;
 
-// S-records, or a paper tape.
+// S-records, or a paper tape of an edition.
 pub enum Format {
     Records,
-    Tape,
+    Tape(Edition),
 }
 
 // A record's end: LF or CR.
@@ -48,7 +49,7 @@ pub fn is_gap(format: Format, c: u8) -> bool
 {
     match format {
         Format::Records => is_end(c),
-        Format::Tape => is_pause(c),
+        Format::Tape(_) => is_pause(c),
     }
 }
 
@@ -58,6 +59,6 @@ pub fn most_cells(format: Format, address: usize) -> usize
 {
     match format {
         Format::Records => ROW - address % ROW,
-        Format::Tape => LINE,
+        Format::Tape(_) => LINE,
     }
 }

@@ -11,6 +11,7 @@ use Rattle.hex.specs.Digits.{byteOf}
 use Rattle.hex.proofs.DigitLaws.{value-small}
 use Rattle.text.specs.Lines.{lines}
 use Rattle.text.proofs.FindLaws.{part, from, to, Next, next-at, next-is}
+use Rattle.tape.specs.declared.Edition.{Edition}
 use Rattle.formats.specs.declared.Format.{Format}
 use Rattle.formats.specs.declared.Format.the-variants.{Records, Tape}
 use Rattle.formats.specs.Choices.{formatOf}
@@ -19,7 +20,7 @@ use Rattle.lines.specs.Counts.{sizeOf, LongAsCounted}
 -- a count asks for 4 to 521 characters
 pub size-bounds : (format : Format) (cs : List ℕ) → (4 ≤ sizeOf format cs) × (sizeOf format cs ≤ 521)
 size-bounds Records cs = (omega arith, omega (arith, value-small (getD cs 2 0), value-small (getD cs 3 0)))
-size-bounds Tape cs = (omega arith, omega (arith, value-small (getD cs 1 0), value-small (getD cs 2 0)))
+size-bounds (Tape edition) cs = (omega arith, omega (arith, value-small (getD cs 1 0), value-small (getD cs 2 0)))
 
 -- the size of the chosen format is that of the format
 pub size-chosen : (format choice : Format) → format ≡ choice → (cs : List ℕ) (r : ℕ) → r ≡ sizeOf choice cs
@@ -33,14 +34,15 @@ size-chosen format choice e cs r q =
 pub size-records : (text : List ℕ) (i : ℕ) → 4 + 2 * byteOf (getD text (i + 2) 0) (getD text (i + 3) 0) ≡ sizeOf Records (drop i text)
 size-records text i = rw (getD-drop i text 2 0, getD-drop i text 3 0)
 
-pub size-tape : (text : List ℕ) (i : ℕ) → 11 + 2 * byteOf (getD text (i + 1) 0) (getD text (i + 2) 0) ≡ sizeOf Tape (drop i text)
-size-tape text i = rw (getD-drop i text 1 0, getD-drop i text 2 0)
+pub size-tape : (edition : Edition) (text : List ℕ) (i : ℕ)
+    → 11 + 2 * byteOf (getD text (i + 1) 0) (getD text (i + 2) 0) ≡ sizeOf (Tape edition) (drop i text)
+size-tape edition text i = rw (getD-drop i text 1 0, getD-drop i text 2 0)
 
 -- of the first characters four decide the size
 size-first : (format : Format) (n : ℕ) (cs : List ℕ) → 4 ≤ n → sizeOf format (take n cs) ≡ sizeOf format cs
 size-first Records n cs h =
     (λ i. 4 + 2 * byteOf (getD-take n cs 2 0 (omega arith) i) (getD-take n cs 3 0 (omega arith) i))
-size-first Tape n cs h =
+size-first (Tape edition) n cs h =
     (λ i. 11 + 2 * byteOf (getD-take n cs 1 0 (omega arith) i) (getD-take n cs 2 0 (omega arith) i))
 
 module _ (format : Format) (text : List ℕ) (at : ℕ) where

@@ -11,7 +11,7 @@ use Rattle.formats.specs.declared.Format.the-variants.{Records, Tape}
 -- how many characters a line that begins so has by its count
 abbrev pub sizeOf : Format → List ℕ → ℕ
 sizeOf Records cs = 4 + 2 * byteOf (getD cs 2 0) (getD cs 3 0)
-sizeOf Tape cs = 11 + 2 * byteOf (getD cs 1 0) (getD cs 2 0)
+sizeOf (Tape edition) cs = 11 + 2 * byteOf (getD cs 1 0) (getD cs 2 0)
 
 -- the first of some lines, if there is one, is as long as its count says
 abbrev pub LongAsCounted : Format → List Line → Type 0

@@ -58,7 +58,7 @@ fn size_at(format: Format, table: &[u32; 256], text: &[u8], from: usize) -> usiz
 {
     match format {
         Format::Records => 4 + 2 * (hex::byte_of(table, text[from + 2], text[from + 3]) as usize),
-        Format::Tape => 11 + 2 * (hex::byte_of(table, text[from + 1], text[from + 2]) as usize),
+        Format::Tape(_) => 11 + 2 * (hex::byte_of(table, text[from + 1], text[from + 2]) as usize),
     }
 }
 

@@ -2,6 +2,7 @@
 use checking::Checked;
 use formats::Format;
 use marks::Form;
+use tape::Edition;
 use window::Entry;
 use window::Header;
 use window::Loaded;
@@ -89,11 +90,17 @@ pub fn load(text: &[u8], base: u32, memory: &mut [u8], marks: &mut [u8]) -> Load
     load_as(Format::Records, text, base, memory, marks)
 }
 
-// Loads a paper tape into a window.
-pub fn load_tape(text: &[u8], base: u32, memory: &mut [u8], marks: &mut [u8]) -> Loaded
-    ensures answer { λ r. ⌜ r ≡ loadAnswer (load (windowOf base (now (memory .entry)) (now (marks .entry))) (plan tape (now (text .entry)))) ⌝ }
-    ensures memory { λ _. ⌜ now (memory .exit) ≡ memoryAfter (now (memory .entry)) (load (windowOf base (now (memory .entry)) (now (marks .entry))) (plan tape (now (text .entry)))) ⌝ }
-    ensures marks { λ _. ⌜ now (marks .exit) ≡ marksAfter (now (marks .entry)) (load (windowOf base (now (memory .entry)) (now (marks .entry))) (plan tape (now (text .entry)))) ⌝ }
+// Loads a paper tape of an edition into a window.
+pub fn load_tape(
+    edition: Edition,
+    text: &[u8],
+    base: u32,
+    memory: &mut [u8],
+    marks: &mut [u8],
+) -> Loaded
+    ensures answer { λ r. ⌜ r ≡ loadAnswer (load (windowOf base (now (memory .entry)) (now (marks .entry))) (plan (tape edition) (now (text .entry)))) ⌝ }
+    ensures memory { λ _. ⌜ now (memory .exit) ≡ memoryAfter (now (memory .entry)) (load (windowOf base (now (memory .entry)) (now (marks .entry))) (plan (tape edition) (now (text .entry)))) ⌝ }
+    ensures marks { λ _. ⌜ now (marks .exit) ≡ marksAfter (now (marks .entry)) (load (windowOf base (now (memory .entry)) (now (marks .entry))) (plan (tape edition) (now (text .entry)))) ⌝ }
 {
-    load_as(Format::Tape, text, base, memory, marks)
+    load_as(Format::Tape(edition), text, base, memory, marks)
 }

@@ -1,26 +1,23 @@
 -- The canonical text as its pieces, one behind the other, and how far they are written.
-use mathlib.Core.Path.{_≡_, refl, sym, ap, _∙_, subst}
+use mathlib.Core.Path.{_≡_, sym, ap, _∙_}
 use Prim.Native.Nat.{ℕ, _+_, _*_, _-_, _≤_, _<_}
-use mathlib.Core.List.{List, [], _∷_, _++_, append-assoc, append-nil}
+use mathlib.Core.List.{List, [], _++_, append-nil}
 use lib.Dec.{leb}
-use lib.ListN.{length, take, drop}
+use lib.ListN.{length}
 use borrow.Author.Tests.{le-leb, lt-leb}
 use Rattle.lists.proofs.TestLaws.{by-test}
 use Rattle.window.specs.declared.Entry.the-variants.{Present}
-use Rattle.window.specs.Windows.{Window, windowOf}
+use Rattle.window.specs.Windows.{Window}
 use Rattle.lists.specs.Lists.{over}
-use Rattle.window.specs.Cells.{Cell, Run, shown}
+use Rattle.window.specs.Cells.{Run, shown}
 use Rattle.text.specs.Runs.{runs, dataLines}
-use Rattle.window.specs.Walks.{unmarked}
 use Rattle.text.specs.Write.{textOf}
 use Rattle.text.proofs.WriteLaws.{lines-before}
-use Rattle.srec.specs.Kinds.{Kind, typeOf, width}
-use Rattle.srec.specs.Kinds.Kind.{S0, Data, S5, End}
-use Rattle.srec.specs.Writing.{recordText}
+use Rattle.srec.specs.Kinds.Kind.{S0, S5, End}
 use Rattle.srec.specs.Canonical.{follow, largest, widthFor, line, dataLine, countLine, canonical}
 use Rattle.srec.specs.Formats.{srec}
 use Rattle.srec_encode.specs.Records.{lineOf}
-use Rattle.lists.proofs.PendingLaws.{Pending, pending-start, pending-room, pending-more, pending-end}
+use Rattle.lists.proofs.PendingLaws.{Pending, pending-room, pending-more}
 use Rattle.srec_encode.proofs.EncodeLaws.{length-line, line-before}
 use Rattle.formats.specs.declared.Format.the-variants.{Records}
 use Rattle.data_lines.specs.Pieces.{dataText}

@@ -16,7 +16,7 @@ use Rattle.tape_step.proofs.LineStepLaws.{counting as tapesCount}
 -- the numbers of its walk can be kept
 pub countingOf : (c : Format) → Counting (formatOf c)
 countingOf Records = recordsCount
-countingOf Tape = tapesCount
+countingOf (Tape edition) = tapesCount edition
 
 module _ (format choice : Format) (e : format ≡ choice) (n : State) (place : ℕ) (cs : List ℕ) where
   -- a step

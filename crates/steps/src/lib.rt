@@ -22,7 +22,7 @@ fn step_of(format: Format, table: &[u32; 256], state: State, chars: &[u8], place
 {
     match format {
         Format::Records => srec_step::step_of(table, state, chars, place),
-        Format::Tape => tape_step::step_of(table, state, chars, place),
+        Format::Tape(edition) => tape_step::step_of(edition, table, state, chars, place),
     }
 }
 
@@ -34,7 +34,7 @@ fn good_step(format: Format, table: &[u32; 256], state: State, chars: &[u8], pla
 {
     match format {
         Format::Records => srec_step::good_step(table, state, chars, place),
-        Format::Tape => tape_step::good_step(table, state, chars, place),
+        Format::Tape(edition) => tape_step::good_step(edition, table, state, chars, place),
     }
 }
 

@@ -16,7 +16,6 @@ use Rattle.text.specs.Terms.{headerIn}
 use Rattle.tape.specs.Reading.{Read, lengthIn, addressIn, dataIn, isLast, read}
 use Rattle.tape.specs.Reading.Read.{good, bad}
 use Rattle.tape.specs.Judging.{carries, carried}
-use Rattle.tape.specs.Formats.{tape}
 use Rattle.tape_step.specs.Answers.{asLine}
 use Rattle.tape_step.proofs.LineFieldLaws.{bs, LineGot, line-got, length-data}
 use Rattle.storing.specs.Stores.{storedBy, Placeable}
@@ -77,6 +76,6 @@ untitled (bad f) = refl
 untitled (good bs) = carries-none bs .got
 
 -- so a tape has none
-pub tape-untitled : (ls : List Line) → headerOf [] ≡ headerOf (firstHeader (tape .part) ls)
+pub tape-untitled : (ls : List Line) → headerOf [] ≡ headerOf (firstHeader (λ chars. carried (read chars)) ls)
 tape-untitled [] = refl
 tape-untitled (l ∷ ls) = ap headerOf (sym (untitled (read (l .chars))))

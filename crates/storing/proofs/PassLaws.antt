@@ -169,7 +169,7 @@ counted : (format : Choice) (own : List ℕ) (base size : ℕ) → Placeable bas
 counted Records own base size p =
     let r : Readable own base size = readable own base size p in
     omega (arith, r .fields .long, r .fields .count-is)
-counted Tape own base size p =
+counted (Tape edition) own base size p =
     let g = line-readable own base size p in
     g .long ∙ ap (λ (n : ℕ). 11 + 2 * n) (sym (length-at own (omega (arith, g .long))))
 

@@ -21,7 +21,8 @@ ghost use Rattle.srec.specs.Reading.{read};
 ghost use Rattle.srec.specs.Judging.{carried};
 ghost use Rattle.srec.specs.Lines.{isEnd};
 ghost use Rattle.srec.specs.Formats.{srec};
-ghost use Rattle.tape.specs.Formats.{tape};
+ghost use Rattle.tape.specs.Reading.{read as readLine};
+ghost use Rattle.tape.specs.Judging.{carried as carriedLine};
 ghost use Rattle.formats.specs.Choices.{formatOf};
 ghost use Rattle.storing.specs.Stores.{storedBy, Placeable, Accepts};
 
@@ -80,8 +81,8 @@ fn place_record(table: &[u32; 256], base: usize, memory: &mut [u8], chars: &[u8]
 
 // The same for a line of a tape.
 fn place_line(table: &[u32; 256], base: usize, memory: &mut [u8], chars: &[u8])
-    requires { ⌜ (now table ≡ digitTable) × Placeable base (length (now memory)) (tape .part (now chars)) ⌝ }
-    ensures { λ _. ⌜ now (memory .exit) ≡ storedBy base (now (memory .entry)) (tape .part (now (chars .entry))) ⌝ }
+    requires { ⌜ (now table ≡ digitTable) × Placeable base (length (now memory)) (carriedLine (readLine (now chars))) ⌝ }
+    ensures { λ _. ⌜ now (memory .exit) ≡ storedBy base (now (memory .entry)) (carriedLine (readLine (now (chars .entry)))) ⌝ }
 {
     let count = hex::byte_of(table, chars[1], chars[2]) as usize;
     // the last line has a number where the others have an address
@@ -99,7 +100,7 @@ fn place(format: Format, table: &[u32; 256], base: usize, memory: &mut [u8], cha
 {
     match format {
         Format::Records => place_record(table, base, memory, chars),
-        Format::Tape => place_line(table, base, memory, chars),
+        Format::Tape(_) => place_line(table, base, memory, chars),
     }
 }
 
@@ -165,6 +166,6 @@ pub fn header_of(format: Format, table: &[u32; 256], text: &[u8]) -> Header
 {
     match format {
         Format::Records => first_header(table, text),
-        Format::Tape => no_header(),
+        Format::Tape(_) => no_header(),
     }
 }

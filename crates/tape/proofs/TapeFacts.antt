@@ -1,6 +1,6 @@
 -- The statements of specs/Facts.antt hold.
 use mathlib.Core.Path.{_≡_, refl, sym, ap}
-use Prim.Native.Nat.{ℕ, _+_, _<_}
+use Prim.Native.Nat.{ℕ, _+_, _/_, _%_, _<_}
 use native.Mathlib.Omega.{arith}
 use mathlib.Core.Bool.{not, _||_}
 use mathlib.Core.List.{List, [], _∷_}
@@ -26,29 +26,30 @@ use Rattle.text.proofs.RunLaws.{AllSized, Longest, sized-runs, rising-runs, lon
 use Rattle.text.proofs.FormatLaws.{HeaderOk, EntryOk}
 use Rattle.text.proofs.LoadLaws.{load-inv, answer-given}
 use Rattle.text.proofs.Facts.{text-is-loaded as carried, cells-are-data as data-bytes, cells-are-marks as marked, records-are-counted as counted, runs-marked}
-use Rattle.tape.specs.Reading.{addressIn, isLast}
-use Rattle.tape.specs.Judging.{checkOf}
+use Rattle.tape.specs.declared.Edition.{Edition}
+use Rattle.tape.specs.Reading.{addressIn}
+use Rattle.tape.specs.Judging.{checkBy, checkOf}
 use Rattle.tape.specs.Canonical.{fields, lineText, line, dataLine, follow, canonical}
 use Rattle.tape.specs.Formats.{tape}
-use Rattle.tape.specs.Facts.{Text-is-loaded, No-header-no-entry, Never-8-or-9, Cells-are-data, Cells-are-marks, Lines-are-counted, Never-empty, Last-line-repeats, CutBy24, Runs-of-24}
+use Rattle.tape.specs.Facts.{Text-is-loaded, No-header-no-entry, Never-8-or-9, Cells-are-data, Cells-are-marks, Lines-are-counted, Never-empty, Last-line-repeats, Last-line-sums, CutBy24, Runs-of-24}
 use Rattle.tape.proofs.TapeLimitLaws.{refuses, limits}
 use Rattle.tape.proofs.TapeFormatLaws.{no-bytes, no-entry, lawful}
 
 -- an accepted load leaves what its tape carries
 pub text-is-loaded : Text-is-loaded
-text-is-loaded = carried tape limits lawful
+text-is-loaded edition = carried (tape edition) limits (lawful edition)
 
 -- an accepted load counts the data bytes of its tape
 pub cells-are-data : Cells-are-data
-cells-are-data = data-bytes tape limits lawful
+cells-are-data edition = data-bytes (tape edition) limits (lawful edition)
 
 -- an accepted load counts as many cells as it leaves marks that are 1
 pub cells-are-marks : Cells-are-marks
-cells-are-marks = marked tape limits lawful
+cells-are-marks edition = marked (tape edition) limits (lawful edition)
 
 -- an accepted load counts the data lines of its tape
 pub lines-are-counted : Lines-are-counted
-lines-are-counted = counted tape limits lawful
+lines-are-counted edition = counted (tape edition) limits (lawful edition)
 
 -- ---- no header and no entry
 
@@ -62,8 +63,9 @@ bare (accepted s img) h =
 
 -- whatever the tape, the load has neither
 pub no-header-no-entry : No-header-no-entry
-no-header-no-entry W t =
-    let b = bare (load W (plan tape t)) (λ s img q. let k = load-inv tape limits lawful W t s img q .storable in (k .header, k .entry)) in
+no-header-no-entry edition W t =
+    let b = bare (load W (plan (tape edition) t))
+    (λ s img q. let k = load-inv (tape edition) limits (lawful edition) W t s img q .storable in (k .header, k .entry)) in
     record { header = b .0; entry = b .1 }
 
 -- ---- the refusals of a tape
@@ -80,9 +82,9 @@ no-byte n w h = eqb-true w 0 (and-both (not (eqb n 8 || eqb n 9)) (eqb w 0) (T-t
 
 -- no load is refused by row 8 or 9, or has a byte
 pub never-8-or-9 : Never-8-or-9
-never-8-or-9 W t =
-    let f = loaded tape W t .refusal in
-    let g = answer-given tape limits lawful W t in
+never-8-or-9 edition W t =
+    let f = loaded (tape edition) W t .refusal in
+    let g = answer-given (tape edition) limits (lawful edition) W t in
     record {
       never-8 = λ e. ⊎-elim {C = ⊥} (λ z. omega (arith, z .0, e)) (λ h. not-8 (f .reason) (f .want) (h .1) e) g;
       never-9 = λ e. ⊎-elim {C = ⊥} (λ z. omega (arith, z .0, e)) (λ h. not-9 (f .reason) (f .want) (h .1) e) g;
@@ -92,20 +94,27 @@ never-8-or-9 W t =
 -- ---- the canonical tape
 
 -- data lines and a last line have at least one character
-some-chars : (rs : List Run) (n : ℕ) → 0 < length (dataLines dataLine rs (line n [] []))
+some-chars : (edition : Edition) (rs : List Run) (n : ℕ) → 0 < length (dataLines (dataLine edition) rs (line edition n [] []))
 unfolding line lineText
-some-chars [] n = omega arith
-some-chars (r ∷ rs) n = omega arith
+some-chars edition [] n = omega arith
+some-chars edition (r ∷ rs) n = omega arith
 
 -- the canonical tape has at least one, whatever the window
 pub never-empty : Never-empty
 unfolding textOf canonical
-never-empty W header entry = some-chars (runs follow (shown W)) (length (runs follow (shown W)))
+never-empty edition W header entry = some-chars edition (runs follow (shown W)) (length (runs follow (shown W)))
 
 -- the last line has its number twice
 pub last-line-repeats : Last-line-repeats
-unfolding lineText fields checkOf isLast addressIn
+unfolding lineText fields checkOf checkBy addressIn
 last-line-repeats n h = rw (number-inBytes 2 n h)
+
+-- or the sum of its bytes
+pub last-line-sums : Last-line-sums
+unfolding lineText fields checkOf checkBy
+last-line-sums n h =
+    let e : (0 + (n / 256 % 256 + (n % 256 + 0))) % 65536 ≡ n / 256 + n % 256 = omega arith in
+    rw e
 
 -- runs that keep to the cut rule and are longest are cut every 24 cells
 cut-by-24 : (lo : ℕ) (rs : List Run) → AllSized follow rs → RisingRuns lo rs → Longest follow rs → CutBy24 rs

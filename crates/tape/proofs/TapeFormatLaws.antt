@@ -1,4 +1,4 @@
--- Tapes are a lawful format.
+-- Tapes of each edition are a lawful format.
 use mathlib.Core.Path.{_≡_, refl, ap, _∙_}
 use Prim.Native.Nat.{ℕ, zero, suc, _^_, _≤_, _<_}
 use native.Mathlib.Omega.{arith}
@@ -21,6 +21,7 @@ use Rattle.text.specs.Runs.{runs}
 use Rattle.text.specs.Formats.{plan}
 use Rattle.text.proofs.RunLaws.{AllGood, good-runs, cells-ok, rising-runs, longest-runs}
 use Rattle.text.proofs.FormatLaws.{Storable, Gives, summaryOf, NoRow, Lawful}
+use Rattle.tape.specs.declared.Edition.{Edition}
 use Rattle.tape.specs.Reading.{read}
 use Rattle.tape.specs.Canonical.{follow, canonical}
 use Rattle.tape.specs.Formats.{row19, firstAbove, row11Marks, rows, tape}
@@ -38,14 +39,15 @@ no-entry Absent q = refl
 no-entry (Present a) q = absurd (let z : _≡_ {A = ℕ} 0 1 = cc in omega arith)
 
 -- the canonical tape of what is storable asks for the runs of its cells, and ends without header and entry
-canonical-gives : (cs : List Cell) (h : List ℕ) (e : Entry) → Storable limits cs h e
-    → Gives (plan tape (canonical cs)) (runs follow cs) (done (summaryOf (runs follow cs) h e))
+canonical-gives : (edition : Edition) (cs : List Cell) (h : List ℕ) (e : Entry) → Storable limits cs h e
+    → Gives (plan (tape edition) (canonical edition cs)) (runs follow cs) (done (summaryOf (runs follow cs) h e))
 unfolding plan canonical
-canonical-gives cs h e m =
+canonical-gives edition cs h e m =
     let rs : List Run = runs follow cs in
     let g : AllGood follow (2 ^ 16) rs = good-runs follow (2 ^ 16) cs (cells-ok (2 ^ 16) cs (m .small)) in
-    let k : Gives (plan tape (canonical cs)) rs (done (summaryOf rs [] Absent))
-    = text-gives (length (canonical cs)) rs g (number-fits rs g (longest-runs follow cs (m .rising)) (rising-runs follow cs (m .rising))) in
+    let k : Gives (plan (tape edition) (canonical edition cs)) rs (done (summaryOf rs [] Absent))
+    = text-gives edition (length (canonical edition cs)) rs g
+    (number-fits rs g (longest-runs follow cs (m .rising)) (rising-runs follow cs (m .rising))) in
     record { asks = k .asks; ends = k .ends ∙ (λ i. done (summaryOf rs (no-bytes h (m .header .short) i) (no-entry e (m .entry .present) i))) }
 
 -- a cell up to FFFF is not above it, marked or not
@@ -71,11 +73,11 @@ no-row W h e a odd m =
     (odd, (rw (le-ltb 0 (length h) (m .header .short), m .entry .present) refl, (rw n (le-ltb (length (W .marks)) (length (W .marks)) (omega arith)), tt)))
 
 -- what every format has to show
-pub lawful : Lawful tape limits
-lawful = record {
-  says = λ s cs. judged-says s (read cs);
+pub lawful : (edition : Edition) → Lawful (tape edition) limits
+lawful edition = record {
+  says = λ s cs. judged-says edition s (read cs);
   shared = shared;
-  bounded = step-ok;
-  gives = canonical-gives;
+  bounded = step-ok edition;
+  gives = canonical-gives edition;
   passes = no-row;
 }

@@ -14,6 +14,7 @@ use Rattle.lists.proofs.ByteLaws.{Bytes, Bytes-take, Bytes-drop}
 use Rattle.hex.proofs.DigitLaws.{bytes-small}
 use Rattle.text.specs.Scan.{State, by-row}
 use Rattle.text.proofs.FormatLaws.{Limits, Given, Shared, IsRefusal, StepOk}
+use Rattle.tape.specs.declared.Edition.{Edition}
 use Rattle.tape.specs.Reading.{Read, fault, row3, row4, row5, row6, lengthIn, addressIn, dataIn, isLast, read}
 use Rattle.tape.specs.Reading.Read.{good, bad}
 use Rattle.tape.specs.Canonical.{follow}
@@ -47,11 +48,11 @@ read-ok cs =
     no reason offset t = record { got = (omega arith, t) }
 
 -- a line that is not refused does what it carries
-pub judged-says : (s : State) (r : Read) → IsRefusal (judged s r) ⊎ (judged s r ≡ carried r)
+pub judged-says : (edition : Edition) (s : State) (r : Read) → IsRefusal (judged edition s r) ⊎ (judged edition s r ≡ carried r)
 unfolding judge
-judged-says s (bad f) = inl tt
-judged-says s (good bs) =
-    by-test (row7 bs) (λ p. inl (rw p tt))
+judged-says edition s (bad f) = inl tt
+judged-says edition s (good bs) =
+    by-test (row7 edition bs) (λ p. inl (rw p tt))
     (λ p. by-test (isLast bs && row10 s (addressIn bs)) (λ q. inl (rw (p, q) tt))
     (λ q. by-test (not (isLast bs) && row11 (addressIn bs) (length (dataIn bs))) (λ r. inl (rw (p, q, r) tt)) (λ r. inr (rw (p, q, r) refl))))
 
@@ -70,17 +71,17 @@ carries-ok s bs h r =
     }))
 
 -- a line of bytes, judged by rows 7, 10 and 11, keeps to the limits
-judge-ok : (s : State) (bs : List ℕ) → Bytes bs → Of (StepOk limits s) (judge s bs)
+judge-ok : (edition : Edition) (s : State) (bs : List ℕ) → Bytes bs → Of (StepOk limits s) (judge edition s bs)
 unfolding judge
-judge-ok s bs h =
-    either (row7 bs) (by s 6 tt) (either (isLast bs && row10 s (addressIn bs)) (by s 9 tt)
+judge-ok edition s bs h =
+    either (row7 edition bs) (by s 6 tt) (either (isLast bs && row10 s (addressIn bs)) (by s 9 tt)
     (by-test (not (isLast bs) && row11 (addressIn bs) (length (dataIn bs))) (λ r. rw r (by s 10 tt)) (λ r. rw r (carries-ok s bs h r))))
 
 -- so does one that is read or cannot be read
-judged-ok : (s : State) (r : Read) → ReadOk r → StepOk limits s (judged s r)
-judged-ok s (good bs) o = judge-ok s bs o .got
-judged-ok s (bad f) o = o
+judged-ok : (edition : Edition) (s : State) (r : Read) → ReadOk r → StepOk limits s (judged edition s r)
+judged-ok edition s (good bs) o = judge-ok edition s bs o .got
+judged-ok edition s (bad f) o = o
 
 -- any line keeps to the limits
-pub step-ok : (s : State) (cs : List ℕ) → StepOk limits s (judged s (read cs))
-step-ok s cs = judged-ok s (read cs) (read-ok cs .got)
+pub step-ok : (edition : Edition) (s : State) (cs : List ℕ) → StepOk limits s (judged edition s (read cs))
+step-ok edition s cs = judged-ok edition s (read cs) (read-ok cs .got)

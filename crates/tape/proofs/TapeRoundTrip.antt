@@ -43,9 +43,9 @@ no-entry (l ∷ ls) = rw (no-entry ls) (entry-in (read (l .chars)))
 
 -- equal tapes are written exactly where the cells are equal
 pub equal-cells : Equal-cells
-equal-cells W₁ W₂ t₁ t₂ room₁ room₂ a₁ a₂ n₁ n₂ =
-    let k : Compared tape (SameContent tape) W₁ W₂ t₁ t₂ room₁ room₂
-    = equal-content tape limits lawful W₁ W₂ t₁ t₂ room₁ room₂ a₁ a₂ n₁ n₂ in
+equal-cells edition W₁ W₂ t₁ t₂ room₁ room₂ a₁ a₂ n₁ n₂ =
+    let k : Compared (tape edition) (SameContent (tape edition)) W₁ W₂ t₁ t₂ room₁ room₂
+    = equal-content (tape edition) limits (lawful edition) W₁ W₂ t₁ t₂ room₁ room₂ a₁ a₂ n₁ n₂ in
     record {
       text₁ = k .text₁;
       text₂ = k .text₂;
@@ -63,4 +63,4 @@ equal-cells W₁ W₂ t₁ t₂ room₁ room₂ a₁ a₂ n₁ n₂ =
 
 -- a written tape gives back what the load behind it gave
 pub written-loads-back : Written-loads-back
-written-loads-back = loads-back tape limits lawful
+written-loads-back edition = loads-back (tape edition) limits (lawful edition)

@@ -1,6 +1,6 @@
--- Demand 2 for tapes, and sentences of 01 and Req 03 beside the demands. The proofs are in proofs/TapeFacts.antt.
+-- Demand 2 for tapes of each edition, and sentences of 01 and Req 03 beside the demands. The proofs are in proofs/TapeFacts.antt.
 use mathlib.Core.Path.{_≡_}
-use Prim.Native.Nat.{ℕ, _+_, _^_, _≤_, _<_}
+use Prim.Native.Nat.{ℕ, _+_, _/_, _%_, _^_, _≤_, _<_}
 use mathlib.Core.Bool.{false}
 use mathlib.Core.List.{List, [], _∷_, _++_}
 use mathlib.Core.Logic.{_⊎_, _↔_}
@@ -17,49 +17,55 @@ use Rattle.text.specs.Write.{textOf}
 use Rattle.text.specs.Load.{headerOf}
 use Rattle.text.specs.Terms.{loaded}
 use Rattle.text.specs.Facts.{Text-is-loaded as TextIsLoaded, Cells-are-data as CellsAreData, Cells-are-marks as CellsAreMarks, Records-are-counted as RecordsAreCounted}
+use Rattle.tape.specs.declared.Edition.{Edition}
+use Rattle.tape.specs.declared.Edition.the-variants.{Repeat, Sum}
 use Rattle.tape.specs.Canonical.{lineText, follow}
 use Rattle.tape.specs.Formats.{tape}
 
 -- demand 2: an accepted load leaves the cells of its tape, and every other memory byte as it was; of header and entry see below
 abbrev pub Text-is-loaded : Type 0
-Text-is-loaded = TextIsLoaded tape
+Text-is-loaded = (edition : Edition) → TextIsLoaded (tape edition)
 
 -- "Header empty, entry absent", whatever the tape
-pub record Bare (W : Window) (t : List ℕ) : Type 0 where
-  pub header : loaded tape W t .header ≡ headerOf []
-  pub entry : loaded tape W t .entry ≡ Absent
+pub record Bare (edition : Edition) (W : Window) (t : List ℕ) : Type 0 where
+  pub header : loaded (tape edition) W t .header ≡ headerOf []
+  pub entry : loaded (tape edition) W t .entry ≡ Absent
 
 abbrev pub No-header-no-entry : Type 0
-No-header-no-entry = (W : Window) (t : List ℕ) → Bare W t
+No-header-no-entry = (edition : Edition) (W : Window) (t : List ℕ) → Bare edition W t
 
 -- "8 and 9 never", and "Req 01's byte is 0 here"
-pub record RefusedSo (W : Window) (t : List ℕ) : Type 0 where
-  pub never-8 : loaded tape W t .refusal .reason ≡ 8 → ⊥
-  pub never-9 : loaded tape W t .refusal .reason ≡ 9 → ⊥
-  pub no-byte : loaded tape W t .refusal .want ≡ 0
+pub record RefusedSo (edition : Edition) (W : Window) (t : List ℕ) : Type 0 where
+  pub never-8 : loaded (tape edition) W t .refusal .reason ≡ 8 → ⊥
+  pub never-9 : loaded (tape edition) W t .refusal .reason ≡ 9 → ⊥
+  pub no-byte : loaded (tape edition) W t .refusal .want ≡ 0
 
 abbrev pub Never-8-or-9 : Type 0
-Never-8-or-9 = (W : Window) (t : List ℕ) → RefusedSo W t
+Never-8-or-9 = (edition : Edition) (W : Window) (t : List ℕ) → RefusedSo edition W t
 
 -- "The number of cells is the sum of the data bytes of all data records .."
 abbrev pub Cells-are-data : Type 0
-Cells-are-data = CellsAreData tape
+Cells-are-data = (edition : Edition) → CellsAreData (tape edition)
 
 -- ".. it also equals the number of marks that are 1."
 abbrev pub Cells-are-marks : Type 0
-Cells-are-marks = CellsAreMarks tape
+Cells-are-marks = (edition : Edition) → CellsAreMarks (tape edition)
 
 -- the number of data lines is that of the tape
 abbrev pub Lines-are-counted : Type 0
-Lines-are-counted = RecordsAreCounted tape
+Lines-are-counted = (edition : Edition) → RecordsAreCounted (tape edition)
 
 -- a canonical tape is never empty
 abbrev pub Never-empty : Type 0
-Never-empty = (W : Window) (header : List ℕ) (entry : Entry) → 0 < length (textOf tape W header entry)
+Never-empty = (edition : Edition) (W : Window) (header : List ℕ) (entry : Entry) → 0 < length (textOf (tape edition) W header entry)
 
 -- "that number again as its check": the last line of a tape with n data lines
 abbrev pub Last-line-repeats : Type 0
-Last-line-repeats = (n : ℕ) → n < 2 ^ 16 → lineText n [] ≡ char ";" ∷ digitsOf (0 ∷ inBytes 2 n ++ inBytes 2 n)
+Last-line-repeats = (n : ℕ) → n < 2 ^ 16 → lineText Repeat n [] ≡ char ";" ∷ digitsOf (0 ∷ inBytes 2 n ++ inBytes 2 n)
+
+-- "the usual sum": that of the number's two bytes
+abbrev pub Last-line-sums : Type 0
+Last-line-sums = (n : ℕ) → n < 2 ^ 16 → lineText Sum n [] ≡ char ";" ∷ digitsOf (0 ∷ inBytes 2 n ++ inBytes 2 (n / 256 + n % 256))
 
 -- a run of 1 to 24 cells; a next one starts behind a cell that is not addressed, or right behind 24
 abbrev pub CutBy24 : List Run → Type 0

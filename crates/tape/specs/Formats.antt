@@ -1,4 +1,4 @@
--- Tapes as a format.
+-- Tapes as a format, one for each edition.
 use Prim.Native.Nat.{ℕ, suc}
 use mathlib.Core.Bool.{Bool, cond, not, _&&_, _||_}
 use mathlib.Core.List.{List, [], _∷_}
@@ -9,6 +9,7 @@ use Rattle.window.specs.Windows.{Window, firstBadMark, row16}
 use Rattle.window.specs.Plans.{isPresent}
 use Rattle.text.specs.Formats.{Row, Format}
 use Rattle.text.specs.Write.{rowOf}
+use Rattle.tape.specs.declared.Edition.{Edition}
 use Rattle.tape.specs.Lines.{isGap}
 use Rattle.tape.specs.Reading.{read}
 use Rattle.tape.specs.Judging.{carried, judged}
@@ -34,11 +35,11 @@ rows W header entry =
     ∷ rowOf (row11Marks W) 11 (firstAbove (W .base) (W .marks)) ∷ []
 
 -- separators, rows 3 to 7, 10 and 11 by reading and judging, the canonical tape, and the writer's rows 16, 19 and 11
-abbrev pub tape : Format
-tape = record {
+abbrev pub tape : Edition → Format
+tape edition = record {
   gap = isGap;
-  step = λ s chars. judged s (read chars);
+  step = λ s chars. judged edition s (read chars);
   part = λ chars. carried (read chars);
-  canonical = λ cs header entry. canonical cs;
+  canonical = λ cs header entry. canonical edition cs;
   rows = rows;
 }

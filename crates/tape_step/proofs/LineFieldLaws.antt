@@ -1,6 +1,6 @@
 -- Where the fields of a line stand in its characters, and what a line that was read says of them.
-use mathlib.Core.Path.{_≡_, refl, sym, ap, _∙_}
-use Prim.Native.Nat.{ℕ, zero, suc, _+_, _-_, _*_, _%_, _≤_}
+use mathlib.Core.Path.{_≡_, sym, ap, _∙_}
+use Prim.Native.Nat.{ℕ, zero, suc, _+_, _-_, _*_, _≤_}
 use native.Mathlib.Omega.{arith}
 use mathlib.Core.Bool.{false, not}
 use mathlib.Core.List.{List, [], _∷_}
@@ -12,11 +12,13 @@ use Rattle.lists.proofs.TestLaws.{by-test, or-neither}
 use Rattle.hex.specs.Digits.{byteOf, bytes, firstBad}
 use Rattle.hex.specs.Numbers.{number, sum}
 use Rattle.hex.proofs.PairLaws.{pair-split, pairs-end, byte-at, take-bytes, drop-bytes, length-bytes}
-use Rattle.tape.specs.Reading.{lengthIn, addressIn, dataIn, covered, checkIn, isLast, row3, row4, row5, row6, read}
+use Rattle.tape.specs.declared.Edition.{Edition}
+use Rattle.tape.specs.Reading.{lengthIn, addressIn, dataIn, covered, checkIn, row3, row4, row5, row6, read}
 use Rattle.tape.specs.Reading.Read.{good}
-use Rattle.tape.specs.Judging.{checkOf}
+use Rattle.tape.specs.Judging.{checkBy, checkOf}
+use Rattle.tape.proofs.TapeCheckLaws.{covered-length, covered-number}
 use Rattle.tape_step.specs.declared.Line.the-variants.{Good, Bad}
-use Rattle.tape_step.specs.Answers.{asLine, checkBy}
+use Rattle.tape_step.specs.Answers.{asLine}
 
 -- ---- fields by their characters
 
@@ -132,31 +134,12 @@ line-is chars a len place g = (λ i. Good (g .address-is i) (g .len-is i)) ∙ a
 
 -- ---- the right check
 
--- what the check covers begins with the length field
-covered-length : (bs : List ℕ) → lengthIn bs ≡ lengthIn (covered bs)
-unfolding covered
-covered-length [] = refl
-covered-length (b ∷ bs) = let e : 3 + b ≡ suc (2 + b) = omega arith in rw e refl
-
--- and in a last line has its number
-covered-number : (bs : List ℕ) → lengthIn bs ≡ 0 → addressIn (covered bs) ≡ addressIn bs
-unfolding covered addressIn
-covered-number bs z = rw z (three bs)
-  where
-    three : (bs : List ℕ) → number (take 2 (drop 1 (take 3 bs))) ≡ number (take 2 (drop 1 bs))
-    three [] = refl
-    three (b ∷ []) = refl
-    three (b ∷ x ∷ []) = refl
-    three (b ∷ x ∷ y ∷ bs) = refl
-
--- the right check by numbers
-pub check-by : (chars : List ℕ) (a len s : ℕ) → LineGot chars a len → s ≡ sum (covered (bs chars)) → checkBy a len s ≡ checkOf (covered (bs chars))
-unfolding checkBy checkOf isLast
-check-by chars a len s g e =
-    let c : lengthIn (covered (bs chars)) ≡ len = sym (g .len-is ∙ covered-length (bs chars)) in
-    by-test (eqb len 0)
-    (λ z. rw (c, z) (g .address-is ∙ sym (covered-number (bs chars) (sym (g .len-is) ∙ eqb-true len 0 z))))
-    (λ z. rw (c, z) (ap (λ (x : ℕ). x % 65536) e))
+-- what `check_of` is given is that of what the check covers
+pub check-given : (edition : Edition) (chars : List ℕ) (a len s r : ℕ) → LineGot chars a len → s ≡ sum (covered (bs chars))
+    → r ≡ checkBy edition len a s → r ≡ checkOf edition (covered (bs chars))
+unfolding checkOf
+check-given edition chars a len s r g e q =
+    q ∙ (λ i. checkBy edition ((g .len-is ∙ sym (covered-length (bs chars))) i) ((g .address-is ∙ sym (covered-number (bs chars))) i) (e i))
 
 -- ---- all bytes of a line
 

@@ -18,6 +18,7 @@ use Rattle.text.specs.Scan.{Step as ScanStep, more, moreData}
 use Rattle.text.specs.Scan.Step.{refuse, skip, title, put, finish}
 use Rattle.text.specs.Steps.{numbers, stateWith, asStep}
 use Rattle.text.proofs.StepLaws.{Counting}
+use Rattle.tape.specs.declared.Edition.{Edition}
 use Rattle.tape.specs.Reading.{Read, fault, lengthIn, dataIn, covered, checkIn, isLast, row3, row4, row5, row6, read}
 use Rattle.tape.specs.Reading.Read.{good, bad}
 use Rattle.tape.specs.Judging.{checkOf, row7, row10, row11, carries, carried, judge, judged}
@@ -67,21 +68,21 @@ no-want cs =
     no reason offset = record { got = refl }
 
 -- the check that a line has is the right one
-pub no-row-7 : (chars : List ℕ) (given right : ℕ) → given ≡ checkIn (bs chars) → right ≡ checkOf (covered (bs chars)) → given ≡ right
-    → row7 (bs chars) ≡ false
+pub no-row-7 : (edition : Edition) (chars : List ℕ) (given right : ℕ) → given ≡ checkIn (bs chars) → right ≡ checkOf edition (covered (bs chars))
+    → given ≡ right → row7 edition (bs chars) ≡ false
 unfolding row7
-no-row-7 chars given right e f h = rw (eq-eqb (checkIn (bs chars)) (checkOf (covered (bs chars))) (sym e ∙ h ∙ f))
+no-row-7 edition chars given right e f h = rw (eq-eqb (checkIn (bs chars)) (checkOf edition (covered (bs chars))) (sym e ∙ h ∙ f))
 
-module _ (place : ℕ) (n : State) (chars : List ℕ) where
+module _ (edition : Edition) (place : ℕ) (n : State) (chars : List ℕ) where
   -- the step that the definitions take
   abbrev whole : Step
-  whole = asStep place (stateWith [] n) (judged (stateWith [] n) (read chars))
+  whole = asStep place (stateWith [] n) (judged edition (stateWith [] n) (read chars))
 
   -- a line that cannot be read is refused where its row says
   pub step-bad : (reason at : ℕ) → Bad reason at ≡ asLine place (read chars) → Refuse reason at 0 ≡ whole
   step-bad reason at q = go (read chars) (no-want chars .got) q
     where
-      go : (r : Read) → NoWant r → Bad reason at ≡ asLine place r → Refuse reason at 0 ≡ asStep place (stateWith [] n) (judged (stateWith [] n) r)
+      go : (r : Read) → NoWant r → Bad reason at ≡ asLine place r → Refuse reason at 0 ≡ asStep place (stateWith [] n) (judged edition (stateWith [] n) r)
       go (good bs) w e = absurd (let z : _≡_ {A = ℕ} 0 1 = cc in omega arith)
       go (bad f) w e = cc
 
@@ -97,13 +98,14 @@ module _ (place : ℕ) (n : State) (chars : List ℕ) where
     )
 
     -- a wrong check
-    pub row-7 : (given right : ℕ) → given ≡ checkIn (bs chars) → right ≡ checkOf (covered (bs chars)) → (given ≡ right → ⊥) → Refuse 7 place 0 ≡ whole
+    pub row-7 : (given right : ℕ) → given ≡ checkIn (bs chars) → right ≡ checkOf edition (covered (bs chars)) → (given ≡ right → ⊥)
+        → Refuse 7 place 0 ≡ whole
     unfolding judge row7
     row-7 given right e f h =
-        rw (g .is, ne-eqb (checkIn (bs chars)) (checkOf (covered (bs chars))) (λ q. h (e ∙ q ∙ sym f)), add-zero)
+        rw (g .is, ne-eqb (checkIn (bs chars)) (checkOf edition (covered (bs chars))) (λ q. h (e ∙ q ∙ sym f)), add-zero)
 
     -- a line with a right check is judged
-    pub step-good : row7 (bs chars) ≡ false → passing place n a len ≡ whole
+    pub step-good : row7 edition (bs chars) ≡ false → passing place n a len ≡ whole
     unfolding passing judge isLast row11 carries
     step-good seven =
         let d : length (dataIn (bs chars)) ≡ len = length-data chars len (g .len-is) (g .long) in
@@ -150,14 +152,14 @@ fits-read cs =
     no reason offset = record { got = tt }
 
 -- the header so far does not matter to the step
-headless : (h : List ℕ) (n : State) (r : Read) → judged (stateWith h n) r ≡ judged (stateWith [] n) r
+headless : (edition : Edition) (h : List ℕ) (n : State) (r : Read) → judged edition (stateWith h n) r ≡ judged edition (stateWith [] n) r
 unfolding judge row10
-headless h n (bad f) = refl
-headless h n (good bs) = refl
+headless edition h n (bad f) = refl
+headless edition h n (good bs) = refl
 
 -- the numbers of a tape's walk can be kept
-pub counting : Counting tape
-counting = record {
-  headless = λ h n cs. headless h n (read cs);
+pub counting : (edition : Edition) → Counting (tape edition)
+counting edition = record {
+  headless = λ h n cs. headless edition h n (read cs);
   roomy = λ cs a ds q. subst (StepFits (length cs)) q (fits-read cs .got);
 }

@@ -1,6 +1,6 @@
 -- What a line that was read says, and what it does behind the lines before it.
 use mathlib.Core.Path.{_≡_}
-use Prim.Native.Nat.{ℕ, _+_, _%_}
+use Prim.Native.Nat.{ℕ, _+_}
 use mathlib.Core.Bool.{false, cond}
 use mathlib.Core.List.{List, []}
 use lib.Dec.{eqb}
@@ -12,6 +12,7 @@ use Rattle.text.specs.declared.Step.{Step}
 use Rattle.text.specs.declared.Step.the-variants.{Refuse, Put, Finish}
 use Rattle.text.specs.Scan.{more, moreData}
 use Rattle.text.specs.Steps.{numbers, stateWith}
+use Rattle.tape.specs.declared.Edition.{Edition}
 use Rattle.tape.specs.Reading.{Read, lengthIn, addressIn, read}
 use Rattle.tape.specs.Reading.Read.{good, bad}
 use Rattle.tape.specs.Judging.{row7, row10, row11}
@@ -24,13 +25,9 @@ asLine place (good bs) = Good (addressIn bs) (lengthIn bs)
 asLine place (bad f) = Bad (f .reason) (place + f .offset)
 
 -- a good answer is what the line says, whatever its place, and its check is right; of a bad one nothing is said
-abbrev pub CheckedIs : Line → List ℕ → Type 0
-CheckedIs (Good address len) chars = (Good address len ≡ asLine 0 (read chars)) × (row7 (bytes (drop 1 chars)) ≡ false)
-CheckedIs (Bad reason place) chars = Unit {0}
-
--- the right check, by an address or number, a length field and the sum of length, address and data
-unfoldable pub checkBy : ℕ → ℕ → ℕ → ℕ
-checkBy address len sum = cond (eqb len 0) address (sum % 65536)
+abbrev pub CheckedIs : Edition → Line → List ℕ → Type 0
+CheckedIs edition (Good address len) chars = (Good address len ≡ asLine 0 (read chars)) × (row7 edition (bytes (drop 1 chars)) ≡ false)
+CheckedIs edition (Bad reason place) chars = Unit {0}
 
 -- the refusal of a line that cannot be read; for one that can be it means nothing
 abbrev pub refusing : Line → Step

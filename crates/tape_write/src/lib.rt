@@ -3,6 +3,7 @@ use formats::Format;
 use marks::Bad;
 use marks::Form;
 use size::Size;
+use tape::Edition;
 use window::Entry;
 use window::Written;
 ghost use mathlib.Core.Path.{_≡_};
@@ -27,7 +28,7 @@ const WIDTH: usize = 2;
 const FRAME: usize = 13;
 
 // Row 19: is there a header or an entry? A tape holds neither.
-fn is_more(header: &[u8], entry: Entry) -> bool
+fn has_extras(header: &[u8], entry: Entry) -> bool
     ensures { λ r. ⌜ r ≡ row19 (now (header .entry)) entry ⌝ }
 {
     if header.len() > 0 {
@@ -69,19 +70,37 @@ fn tape_length(size: Size) -> usize
 }
 
 // Writes the canonical tape of a window, whose number of data lines is known, at the start of the output.
-fn put_tape(out: &mut [u8], base: u32, memory: &[u8], form: Form, marks: &[u8], records: usize)
+fn put_tape(
+    edition: Edition,
+    out: &mut [u8],
+    base: u32,
+    memory: &[u8],
+    form: Form,
+    marks: &[u8],
+    records: usize,
+)
     requires { ⌜ (length (now marks) ≡ markBytes form (length (now memory))) × (base + length (now memory) ≤ 2 ^ 32) ⌝ }
     requires { ⌜ (records ≡ length (runs follow (shown (plain form (windowOf base (now memory) (now marks)))))) × (records ≤ 2 ^ 16) ⌝ }
-    requires { ⌜ length (canonical (shown (plain form (windowOf base (now memory) (now marks))))) ≤ length (now out) ⌝ }
-    ensures { λ _. ⌜ now (out .exit) ≡ over (now (out .entry)) 0 (canonical (shown (plain form (windowOf base (now (memory .entry)) (now (marks .entry)))))) ⌝ }
+    requires { ⌜ length (canonical edition (shown (plain form (windowOf base (now memory) (now marks))))) ≤ length (now out) ⌝ }
+    ensures { λ _. ⌜ now (out .exit) ≡ over (now (out .entry)) 0 (canonical edition (shown (plain form (windowOf base (now (memory .entry)) (now (marks .entry)))))) ⌝ }
 {
     let none = [0u8; 0];
-    let behind_data = data_lines::put_cells(Format::Tape, out, 0, base, memory, form, marks, WIDTH);
-    tape_encode::put_line(out, behind_data, records as u32, &none);
+    let behind_data = data_lines::put_cells(
+        Format::Tape(edition),
+        out,
+        0,
+        base,
+        memory,
+        form,
+        marks,
+        WIDTH,
+    );
+    tape_encode::put_line(edition, out, behind_data, records as u32, &none);
 }
 
 // Writes the canonical tape of a window at the start of the output, or says which row refuses that.
 pub fn write(
+    edition: Edition,
     base: u32,
     memory: &[u8],
     marks: &[u8],
@@ -89,8 +108,8 @@ pub fn write(
     entry: Entry,
     out: &mut [u8],
 ) -> Written
-    ensures answer { λ r. ⌜ r ≡ writeAnswer (write tape (windowOf base (now (memory .entry)) (now (marks .entry))) (now (header .entry)) entry (length (now (out .entry)))) ⌝ }
-    ensures output { λ _. ⌜ now (out .exit) ≡ outputAfter (now (out .entry)) (write tape (windowOf base (now (memory .entry)) (now (marks .entry))) (now (header .entry)) entry (length (now (out .entry)))) ⌝ }
+    ensures answer { λ r. ⌜ r ≡ writeAnswer (write (tape edition) (windowOf base (now (memory .entry)) (now (marks .entry))) (now (header .entry)) entry (length (now (out .entry)))) ⌝ }
+    ensures output { λ _. ⌜ now (out .exit) ≡ outputAfter (now (out .entry)) (write (tape edition) (windowOf base (now (memory .entry)) (now (marks .entry))) (now (header .entry)) entry (length (now (out .entry)))) ⌝ }
 {
     if !window::is_allowed(base, memory, marks) {
         return text::refused_write(1, 0);
@@ -101,18 +120,18 @@ pub fn write(
     if let Bad::At(place) = bad {
         return text::refused_write(16, place);
     }
-    if is_more(header, entry) {
+    if has_extras(header, entry) {
         return text::refused_write(19, 0);
     }
     let above = first_above(base, form, marks, cells);
     if above < cells {
         return text::refused_write(11, above);
     }
-    let size = size::size_of(Format::Tape, base, form, marks, cells, 0);
+    let size = size::size_of(Format::Tape(edition), base, form, marks, cells, 0);
     let need = tape_length(size);
     if out.len() < need {
         return text::refused_write(17, need);
     }
-    put_tape(out, base, memory, form, marks, size.records);
+    put_tape(edition, out, base, memory, form, marks, size.records);
     text::accepted_write(need)
 }

@@ -2,11 +2,12 @@
 //
 // A case is a heading line, then the text itself, every character of it, up to the next `@`. The heading is `@`, the window's base,
 // `:`, its number of cells, both in eight hex digits, and a name, as in `@0000FFFE:00000002 the last cells`. Before the name stands a
-// space for S-records, and `;` for a paper tape.
+// space for S-records, `;` for a paper tape whose last line repeats its number, and `+` for one whose last line has the usual sum.
 use convert::Converted;
 use formats::Format;
 use libc::STDIN_FILENO;
 use libc::STDOUT_FILENO;
+use tape::Edition;
 use window::Entry;
 use window::Loaded;
 use window::Refusal;
@@ -145,7 +146,10 @@ fn run_text(
 // The format that a heading tells by the character before the name.
 fn format_of(sign: u8) -> Format {
     if sign == b';' {
-        return Format::Tape;
+        return Format::Tape(Edition::Repeat);
+    }
+    if sign == b'+' {
+        return Format::Tape(Edition::Sum);
     }
     Format::Records
 }

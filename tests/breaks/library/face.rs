@@ -71,6 +71,7 @@ pub unsafe extern "C" fn srec_write(
 /// As in include/srec.h.
 #[no_mangle]
 pub unsafe extern "C" fn srec_load_tape(
+    edition: u32,
     text: *const u8,
     text_len: usize,
     base: u32,
@@ -82,7 +83,7 @@ pub unsafe extern "C" fn srec_load_tape(
     // tape load starts
     let lines = lent(text, text_len);
     let cells = lent_mut(memory, memory_len);
-    let loaded = tape::load_tape(lines, base, cells, lent_mut(marks, marks_len));
+    let loaded = tape::load_tape(named(edition), lines, base, cells, lent_mut(marks, marks_len));
     // tape load ends
     loaded.refusal.number
 }
@@ -91,6 +92,7 @@ pub unsafe extern "C" fn srec_load_tape(
 /// As in include/srec.h.
 #[no_mangle]
 pub unsafe extern "C" fn srec_write_tape(
+    edition: u32,
     base: u32,
     memory: *const u8,
     memory_len: usize,
@@ -102,7 +104,16 @@ pub unsafe extern "C" fn srec_write_tape(
     // tape write starts
     let cells = lent(memory, memory_len);
     let marks = lent(marks, marks_len);
-    let written = tape::write_tape(base, cells, marks, &[], None, lent_mut(out, out_len));
+    let room = lent_mut(out, out_len);
+    let written = tape::write_tape(named(edition), base, cells, marks, &[], None, room);
     // tape write ends
     written.length
+}
+
+/// The edition that a number names.
+fn named(edition: u32) -> tape::Edition {
+    match edition {
+        0 => tape::Edition::Repeat,
+        _ => tape::Edition::Sum,
+    }
 }

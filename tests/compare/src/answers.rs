@@ -1,53 +1,88 @@
 //! Whole answers, by the program `vectors` and by the second reading: record
 //! number, place, right checksum, header, entry and counts, which the C face
-//! does not give. Texts of both formats are drawn.
+//! does not give. Texts of both formats are drawn, and tapes of both editions.
 
 use crate::format::{Format, FORMATS};
 use crate::settings::Settings;
 use crate::tally::Tally;
+use second::cases::LoadCase;
 use second::script::{Case, ROOM};
 use std::env;
 use std::io::Write;
 use std::path::{Path, PathBuf};
 use std::process::{Command, Stdio};
 
-/// A drawn load whose window and text can be handed over; marks of another
-/// length than the memory cannot. An index says what its case is made for,
-/// by 4 and by 15: with 17 there are large ones of each kind.
+/// A drawn load. An index says what its case is made for, by 4 and by 15: with 17
+/// there are large ones of each kind.
 fn drawn_case(format: &Format, seed: u64, index: u64) -> Option<Case> {
     let large = index.is_multiple_of(17);
-    let limits = if large { format.full } else { format.small };
-    let drawn = (format.load_case)(seed, index, limits);
+    let wanted = format.wanted;
+    let limits = if large { wanted.full } else { wanted.small };
     let name = format!("seed {seed}, index {index}");
+    named(format, name, wanted.load_case(seed, index, limits))
+}
+
+/// None if window and text cannot be handed over; marks of another length than
+/// the memory cannot.
+fn named(format: &Format, name: String, drawn: LoadCase) -> Option<Case> {
     let case = Case::new(name, drawn.base, drawn.memory.len(), drawn.text)?.of(format.script);
     let fits = drawn.marks.len() == case.cells && case.script().len() <= ROOM;
     fits.then_some(case)
 }
 
-/// Compares so many drawn texts of each format, the formats in turn; the
-/// program takes as many as its input holds.
+/// The cases of one run of the program.
+#[derive(Default)]
+struct Batch {
+    cases: Vec<Case>,
+    script: Vec<u8>,
+    compared: usize,
+}
+
+impl Batch {
+    /// Takes in one more, behind a run if the input holds no more.
+    fn add(&mut self, case: Option<Case>, numbers: &mut Tally<u32>) -> Result<(), String> {
+        let Some(case) = case else {
+            return Ok(());
+        };
+        numbers.add(number(&case.answer()));
+        let script = case.script();
+        if self.script.len() + script.len() > ROOM {
+            self.run()?;
+        }
+        self.script.extend(script);
+        self.cases.push(case);
+        Ok(())
+    }
+
+    /// Compares the cases, and starts again with none.
+    fn run(&mut self) -> Result<(), String> {
+        compare(&self.cases, &self.script)?;
+        self.compared += self.cases.len();
+        self.cases.clear();
+        self.script.clear();
+        Ok(())
+    }
+}
+
+/// Compares so many drawn texts of each format, the formats in turn, behind the
+/// tapes with about 256 lines; the program takes as many as its input holds.
 pub fn drawn(settings: &Settings) -> Result<String, String> {
-    let mut numbers = FORMATS.map(|format| Tally::of(format.load_numbers.iter().copied()));
-    let (mut batch, mut script) = (Vec::new(), Vec::new());
-    let mut compared = 0;
-    for index in 0..settings.cases {
-        for (format, numbers) in FORMATS.iter().zip(&mut numbers) {
-            let Some(case) = drawn_case(format, settings.seed, index) else {
-                continue;
-            };
-            numbers.add(number(&case.answer()));
-            if script.len() + case.script().len() > ROOM {
-                compare(&batch, &script)?;
-                batch.clear();
-                script.clear();
-            }
-            script.extend(case.script());
-            batch.push(case);
-            compared += 1;
+    let seed = settings.seed;
+    let mut numbers = FORMATS.map(|format| Tally::of(format.wanted.numbers.iter().copied()));
+    let mut batch = Batch::default();
+    for (format, numbers) in FORMATS.iter().zip(&mut numbers) {
+        for (number, drawn) in (format.numbered)(seed) {
+            let name = format!("seed {seed}, {number} lines");
+            batch.add(named(format, name, drawn), numbers)?;
         }
     }
-    compare(&batch, &script)?;
-    let mut report = format!("{compared} texts");
+    for index in 0..settings.cases {
+        for (format, numbers) in FORMATS.iter().zip(&mut numbers) {
+            batch.add(drawn_case(format, seed, index), numbers)?;
+        }
+    }
+    batch.run()?;
+    let mut report = format!("{} texts", batch.compared);
     for (format, numbers) in FORMATS.iter().zip(&numbers) {
         let name = format.name;
         let numbers = numbers.complete();

@@ -1,32 +1,27 @@
-//! The two formats: all that the checks need to know of each.
+//! S-records, and tapes of either edition: all that the checks need to know of each.
 
 use crate::content::{Change, Content, CHANGES};
 use crate::library::{self, Load, Write};
 use crate::settings::Settings;
 use crate::texts;
-use second::cases::{self, tapes, Limits, LoadCase, WriteCase};
+use second::cases::{self, tapes, Drawing, Limits, LoadCase, WriteCase};
 use second::random::Random;
-use second::reading::{self, Loader, Writer};
-use second::{script, tape};
+use second::script;
+use second::tape::Edition;
 
 pub struct Format {
     pub name: &'static str,
     /// By the library.
     pub load: Load,
     pub write: Write,
-    /// By the second reading.
-    pub wanted_load: Loader,
-    pub wanted_write: Writer,
-    /// One of so many cases is drawn: tapes, with one width, need fewer.
+    /// By the second reading, with how cases are drawn.
+    pub wanted: &'static Drawing,
+    /// One of so many cases is drawn: tapes, with one width and two editions, need fewer.
     pub one_of: u64,
-    /// Drawn cases, and what they can answer from C.
-    pub load_case: fn(u64, u64, Limits) -> LoadCase,
-    pub write_case: fn(u64, u64, Limits) -> WriteCase,
-    pub aimed_number: fn(u64) -> Option<u32>,
-    pub full: Limits,
-    pub small: Limits,
-    pub load_numbers: &'static [u32],
+    /// What a write can answer from C.
     pub write_numbers: &'static [u32],
+    /// Cases with about as many lines as the editions agree on, and how many.
+    pub numbered: fn(u64) -> Vec<(usize, LoadCase)>,
     /// Cases with very many lines, and what they answer.
     pub large_loads: fn(u64) -> Vec<LoadCase>,
     pub large_writes: fn(u64) -> Vec<WriteCase>,
@@ -55,16 +50,10 @@ pub static RECORDS: Format = Format {
     name: "S-records",
     load: library::load,
     write: library::write,
-    wanted_load: reading::load,
-    wanted_write: reading::write,
+    wanted: &cases::RECORDS,
     one_of: 1,
-    load_case: cases::load_case,
-    write_case: cases::write_case,
-    aimed_number: cases::aimed_number,
-    full: cases::FULL,
-    small: cases::SMALL,
-    load_numbers: &cases::LOAD_NUMBERS,
     write_numbers: &[0, 1, 15, 16, 17],
+    numbered: |_| Vec::new(),
     large_loads: cases::large_load_cases,
     large_writes: cases::large_write_cases,
     large_load_numbers: &[0, 10],
@@ -80,36 +69,48 @@ pub static RECORDS: Format = Format {
     script: script::Format::Srec,
 };
 
-pub static TAPES: Format = Format {
-    name: "tapes",
-    load: library::load_tape,
-    write: library::write_tape,
-    wanted_load: tape::load_tape,
-    wanted_write: tape::write_tape,
-    one_of: 2,
-    load_case: tapes::load_case,
-    write_case: |seed, index, limits| tapes::TAPES.write_case(seed, index, limits),
-    aimed_number: |index| tapes::TAPES.aimed_number(index),
-    full: tapes::FULL,
-    small: tapes::SMALL,
-    load_numbers: &tapes::LOAD_NUMBERS,
-    write_numbers: &[0, 1, 11, 16, 17],
-    large_loads: tapes::large_load_cases,
-    large_writes: tapes::large_write_cases,
-    large_load_numbers: &[0, 10, 14],
-    large_write_numbers: &[0, 11, 17],
-    last_kinds: &[0],
-    reach: 1 << 16,
-    has_entry: false,
-    changes: &[Change::CellByte, Change::CellAdded, Change::CellTaken],
-    text: texts::tape_of,
-    divided: texts::full_lines,
-    line: 13,
-    other_lines: 13,
-    script: script::Format::Tape,
-};
+/// All that tapes of an edition need, for functions that name it.
+macro_rules! tapes {
+    ($name:expr, $edition:expr, $drawing:expr) => {
+        Format {
+            name: $name,
+            load: |text, base, memory, marks| {
+                library::load_tape($edition, text, base, memory, marks)
+            },
+            write: |base, memory, marks, _, _, out| {
+                library::write_tape($edition, base, memory, marks, out)
+            },
+            wanted: &$drawing,
+            one_of: 4,
+            write_numbers: &[0, 1, 11, 16, 17],
+            numbered: |seed| numbered_tapes($edition, seed),
+            large_loads: |seed| tapes::large_load_cases($edition, seed),
+            large_writes: tapes::large_write_cases,
+            large_load_numbers: &[0, 10, 14],
+            large_write_numbers: &[0, 11, 17],
+            last_kinds: &[0],
+            reach: 1 << 16,
+            has_entry: false,
+            changes: &[Change::CellByte, Change::CellAdded, Change::CellTaken],
+            text: |content, random| texts::tape_of($edition, content, random),
+            divided: texts::full_lines,
+            line: 13,
+            other_lines: 13,
+            script: script::Format::Tape($edition),
+        }
+    };
+}
 
-pub static FORMATS: [&Format; 2] = [&RECORDS, &TAPES];
+pub static TAPES: Format = tapes!("tapes", Edition::Repeat, tapes::TAPES);
+
+pub static SUM_TAPES: Format = tapes!("tapes with sums", Edition::Sum, tapes::SUM_TAPES);
+
+pub static FORMATS: [&Format; 3] = [&RECORDS, &TAPES, &SUM_TAPES];
+
+fn numbered_tapes(edition: Edition, seed: u64) -> Vec<(usize, LoadCase)> {
+    let case = |&number: &usize| (number, tapes::numbered_load_case(edition, seed, number));
+    tapes::NUMBERS.iter().map(case).collect()
+}
 
 impl Format {
     /// How many cases a check draws that takes so many of every 100.
@@ -121,7 +122,7 @@ impl Format {
     /// want of another, and a tape without header and entry. So rows 18 and 19
     /// do not apply, and all others do.
     pub fn write_from_c(&self, seed: u64, index: u64, limits: Limits) -> WriteCase {
-        let case = (self.write_case)(seed, index, limits);
+        let case = self.wanted.write_case(seed, index, limits);
         if self.has_entry {
             let entry = case.entry.or(Some(case.base));
             WriteCase { entry, ..case }

@@ -1,6 +1,6 @@
 //! The library's functions, as include/srec.h declares them.
 
-type LoadOfC = unsafe extern "C" fn(*const u8, usize, u32, *mut u8, usize, *mut u8, usize) -> u32;
+use second::tape::Edition;
 
 extern "C" {
     fn srec_load(
@@ -27,6 +27,7 @@ extern "C" {
     ) -> usize;
 
     fn srec_load_tape(
+        edition: u32,
         text: *const u8,
         text_len: usize,
         base: u32,
@@ -37,6 +38,7 @@ extern "C" {
     ) -> u32;
 
     fn srec_write_tape(
+        edition: u32,
         base: u32,
         memory: *const u8,
         memory_len: usize,
@@ -55,18 +57,10 @@ pub type Load = fn(&[u8], u32, &mut [u8], &mut [u8]) -> u32;
 pub type Write = fn(u32, &[u8], &[u8], &[u8], Option<u32>, &mut [u8]) -> usize;
 
 pub fn load(text: &[u8], base: u32, memory: &mut [u8], marks: &mut [u8]) -> u32 {
-    load_by(srec_load, text, base, memory, marks)
-}
-
-pub fn load_tape(text: &[u8], base: u32, memory: &mut [u8], marks: &mut [u8]) -> u32 {
-    load_by(srec_load_tape, text, base, memory, marks)
-}
-
-fn load_by(load: LoadOfC, text: &[u8], base: u32, memory: &mut [u8], marks: &mut [u8]) -> u32 {
     // SAFETY: each pointer goes with the length of its own slice, and slices
     // that can be changed overlap no other.
     unsafe {
-        load(
+        srec_load(
             text.as_ptr(),
             text.len(),
             base,
@@ -75,6 +69,36 @@ fn load_by(load: LoadOfC, text: &[u8], base: u32, memory: &mut [u8], marks: &mut
             marks.as_mut_ptr(),
             marks.len(),
         )
+    }
+}
+
+pub fn load_tape(
+    edition: Edition,
+    text: &[u8],
+    base: u32,
+    memory: &mut [u8],
+    marks: &mut [u8],
+) -> u32 {
+    // SAFETY: as above.
+    unsafe {
+        srec_load_tape(
+            number(edition),
+            text.as_ptr(),
+            text.len(),
+            base,
+            memory.as_mut_ptr(),
+            memory.len(),
+            marks.as_mut_ptr(),
+            marks.len(),
+        )
+    }
+}
+
+/// The number by which C names an edition.
+fn number(edition: Edition) -> u32 {
+    match edition {
+        Edition::Repeat => 0,
+        Edition::Sum => 1,
     }
 }
 
@@ -106,16 +130,16 @@ pub fn write(
 
 /// C can give neither a header nor an entry to a tape.
 pub fn write_tape(
+    edition: Edition,
     base: u32,
     memory: &[u8],
     marks: &[u8],
-    _: &[u8],
-    _: Option<u32>,
     out: &mut [u8],
 ) -> usize {
     // SAFETY: as above.
     unsafe {
         srec_write_tape(
+            number(edition),
             base,
             memory.as_ptr(),
             memory.len(),

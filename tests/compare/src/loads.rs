@@ -9,18 +9,18 @@ use second::random::Random;
 
 pub fn full(format: &Format, settings: &Settings) -> Result<String, String> {
     let cases = format.share(settings, 35);
-    drawn(format, settings.seed, cases, format.full)
+    drawn(format, settings.seed, cases, format.wanted.full)
 }
 
 pub fn small(format: &Format, settings: &Settings) -> Result<String, String> {
     let cases = format.share(settings, 25);
-    drawn(format, !settings.seed, cases, format.small)
+    drawn(format, !settings.seed, cases, format.wanted.small)
 }
 
 fn drawn(format: &Format, seed: u64, cases: u64, limits: Limits) -> Result<String, String> {
-    let mut numbers = Tally::of(format.load_numbers.iter().copied());
+    let mut numbers = Tally::of(format.wanted.numbers.iter().copied());
     for index in 0..cases {
-        let case = (format.load_case)(seed, index, limits);
+        let case = format.wanted.load_case(seed, index, limits);
         let number = compare(format, &case, seed ^ index).map_err(|error| {
             let case = describe(&case);
             format!("seed {seed}, index {index}: {error}\n{case}")
@@ -54,7 +54,7 @@ pub fn compare(format: &Format, case: &LoadCase, layout: u64) -> Result<u32, Str
         marks.bytes_mut(),
     );
     let (mut wanted_memory, mut wanted_marks) = (case.memory.clone(), case.marks.clone());
-    let loaded = (format.wanted_load)(&case.text, case.base, &mut wanted_memory, &mut wanted_marks);
+    let loaded = (format.wanted.load)(&case.text, case.base, &mut wanted_memory, &mut wanted_marks);
     let wanted = loaded.refusal.number;
     if number != wanted {
         return Err(format!("the library answers {number}, not {wanted}"));

@@ -106,7 +106,7 @@ fn each_content(
 ) -> Result<String, String> {
     let number = format.share(settings, 2);
     let seed = settings.seed.wrapping_mul(8).wrapping_add(kind);
-    let accepted = (0..).filter(|&index| (format.aimed_number)(index) == Some(0));
+    let accepted = (0..).filter(|&index| format.wanted.aimed_number(index) == Some(0));
     for index in accepted.take(number as usize) {
         let random = &mut Random::new(seed, !index);
         let (content, text) = accepted_text(format, seed, index, random);
@@ -125,10 +125,10 @@ fn accepted_text(
     index: u64,
     random: &mut Random,
 ) -> (Content, Vec<u8>) {
-    let limits = random.pick(&[format.full, format.small]);
-    let mut case = (format.load_case)(seed, index, limits);
+    let limits = random.pick(&[format.wanted.full, format.wanted.small]);
+    let mut case = format.wanted.load_case(seed, index, limits);
     let (memory, marks) = (&mut case.memory, &mut case.marks);
-    let loaded = (format.wanted_load)(&case.text, case.base, memory, marks);
+    let loaded = (format.wanted.load)(&case.text, case.base, memory, marks);
     let content = Content {
         header: loaded.header[..loaded.header_len].to_vec(),
         cells: marked_cells(case.base, &case.memory, &case.marks),
@@ -187,7 +187,7 @@ fn loaded(
     }
     memory.expect("memory", &wanted_memory)?;
     marks.expect("marks", &wanted_marks)?;
-    let loaded = (format.wanted_load)(text, base, &mut wanted_memory, &mut wanted_marks);
+    let loaded = (format.wanted.load)(text, base, &mut wanted_memory, &mut wanted_marks);
     let header = &loaded.header[..loaded.header_len];
     if header != content.header || loaded.entry != content.entry {
         return Err(format!("other content: {}", text.escape_ascii()));

@@ -2,6 +2,7 @@
 
 use crate::content::Content;
 use second::random::Random;
+use second::tape::Edition;
 
 /// The most data bytes of a tape's line, when read and when written.
 const LONGEST_LINE: usize = 255;
@@ -82,14 +83,14 @@ fn record(kind: u8, width: usize, address: u64, data: &[u8]) -> Vec<u8> {
 }
 
 /// A tape: cuts, order and style are drawn.
-pub fn tape_of(content: &Content, random: &mut Random) -> Vec<u8> {
+pub fn tape_of(edition: Edition, content: &Content, random: &mut Random) -> Vec<u8> {
     let pieces = content.pieces(random, LONGEST_LINE);
     let mut lines: Vec<Vec<u8>> = pieces
         .iter()
         .map(|(start, data)| data_line(*start as u16, data))
         .collect();
     random.shuffle(&mut lines);
-    lines.push(last_line(lines.len() as u16));
+    lines.push(last_line(edition, lines.len() as u16));
     let ends: [&[u8]; 7] = [
         b"\n",
         b"\r\n",
@@ -110,8 +111,12 @@ fn data_line(address: u16, data: &[u8]) -> Vec<u8> {
     [b";", &digits(&bytes)[..]].concat()
 }
 
-fn last_line(number: u16) -> Vec<u8> {
-    format!(";00{number:04X}{number:04X}").into_bytes()
+fn last_line(edition: Edition, number: u16) -> Vec<u8> {
+    let check = match edition {
+        Edition::Repeat => number,
+        Edition::Sum => sum(&number.to_be_bytes()) as u16,
+    };
+    format!(";00{number:04X}{check:04X}").into_bytes()
 }
 
 fn sum(bytes: &[u8]) -> u32 {

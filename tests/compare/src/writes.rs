@@ -10,12 +10,12 @@ use second::random::Random;
 
 pub fn full(format: &Format, settings: &Settings) -> Result<String, String> {
     let cases = format.share(settings, 25);
-    drawn(format, settings.seed, cases, format.full)
+    drawn(format, settings.seed, cases, format.wanted.full)
 }
 
 pub fn small(format: &Format, settings: &Settings) -> Result<String, String> {
     let cases = format.share(settings, 15);
-    drawn(format, !settings.seed, cases, format.small)
+    drawn(format, !settings.seed, cases, format.wanted.small)
 }
 
 fn drawn(format: &Format, seed: u64, cases: u64, limits: Limits) -> Result<String, String> {
@@ -85,7 +85,7 @@ pub fn shared_inputs(format: &Format, settings: &Settings) -> Result<String, Str
         let mut out = Guarded::unset(random, format.enough(length, length));
         let mut wanted = out.bytes().to_vec();
         let found = (format.write)(base, bytes, bytes, header, entry, out.bytes_mut());
-        let written = (format.wanted_write)(base, &bits, &bits, header, entry, &mut wanted);
+        let written = (format.wanted.write)(base, &bits, &bits, header, entry, &mut wanted);
         if found != written.length {
             return Err(format!(
                 "the library answers {found}, not {}",
@@ -120,7 +120,7 @@ fn compare(format: &Format, case: &WriteCase, layout: u64) -> Result<Written, St
         case.entry,
         out.bytes_mut(),
     );
-    let written = (format.wanted_write)(
+    let written = (format.wanted.write)(
         case.base,
         &case.memory,
         &case.marks,

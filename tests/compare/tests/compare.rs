@@ -1,6 +1,6 @@
 //! Runs every check and prints what came up.
 
-use compare::format::{Format, FORMATS, RECORDS, TAPES};
+use compare::format::{Format, FORMATS, RECORDS, SUM_TAPES, TAPES};
 use compare::settings::Settings;
 use compare::{examples, guards_notice, loads, properties, writes};
 use std::process::ExitCode;
@@ -10,7 +10,7 @@ type Outcome = Result<String, String>;
 type Check = fn(&Settings) -> Outcome;
 type CheckOfFormat = fn(&Format, &Settings) -> Outcome;
 
-const CHECKS: [(&str, Check); 4] = [
+const CHECKS: [(&str, Check); 5] = [
     ("guards", |_| guards_notice()),
     ("examples", |_| examples::hold()),
     ("S-records as tapes", |settings| {
@@ -18,6 +18,9 @@ const CHECKS: [(&str, Check); 4] = [
     }),
     ("tapes as S-records", |settings| {
         properties::across(&TAPES, &RECORDS, settings)
+    }),
+    ("tapes in the other edition", |settings| {
+        properties::across(&TAPES, &SUM_TAPES, settings)
     }),
 ];
 

@@ -469,11 +469,11 @@ pub fn write(
     entry: Option<u32>,
     out: &mut [u8],
 ) -> Written {
-    let rows = [
-        (1, row_1(base, memory.len(), marks.len()).then_some(0)),
-        (15, (header.len() > HEADER_ROOM).then_some(0)),
-        (16, row_16(marks)),
-        (18, entry.is_none().then_some(0)),
+    let rows: [WriteRow; 4] = [
+        (1, &|| row_1(base, memory.len(), marks.len()).then_some(0)),
+        (15, &|| (header.len() > HEADER_ROOM).then_some(0)),
+        (16, &|| row_16(marks)),
+        (18, &|| entry.is_none().then_some(0)),
     ];
     let text = || canonical(base, memory, marks, header, entry.unwrap_or(0));
     write_text(&rows, text, out)
@@ -484,10 +484,14 @@ pub(crate) fn row_16(marks: &[u8]) -> Option<usize> {
     marks.iter().position(|&mark| mark > 1)
 }
 
+/// A row of the writer, and its place if it applies. It is not asked behind a row
+/// that applies: marks that row 1 refuses are not read.
+pub(crate) type WriteRow<'a> = (u32, &'a dyn Fn() -> Option<usize>);
+
 /// Refuses by the first row that has a place, or by row 17 if there is no room
 /// for the text, and leaves the output as it was then. Else the text is written.
 pub(crate) fn write_text(
-    rows: &[(u32, Option<usize>)],
+    rows: &[WriteRow],
     text: impl Fn() -> Vec<u8>,
     out: &mut [u8],
 ) -> Written {
@@ -501,7 +505,7 @@ pub(crate) fn write_text(
         length: 0,
     };
     for &(number, place) in rows {
-        if let Some(place) = place {
+        if let Some(place) = place() {
             return refused(number, place);
         }
     }

@@ -1,8 +1,9 @@
 //! The form in which the program `vectors` takes its cases and prints its
 //! answers: crates/vectors/src/main.rt says which.
 
-use crate::reading::{load, write, Loaded, Loader, Refusal, Writer};
-use crate::tape::{load_tape, write_tape};
+use crate::cases::{tapes, RECORDS};
+use crate::reading::{Loaded, Refusal};
+use crate::tape::Edition;
 
 /// The room that `vectors` has for its input, a window and a canonical text.
 pub const ROOM: usize = 65_536;
@@ -11,17 +12,22 @@ pub const ROOM: usize = 65_536;
 #[derive(Clone, Copy, Debug, PartialEq, Eq)]
 pub enum Format {
     Srec,
-    Tape,
+    Tape(Edition),
 }
 
-const FORMATS: [Format; 2] = [Format::Srec, Format::Tape];
+const FORMATS: [Format; 3] = [
+    Format::Srec,
+    Format::Tape(Edition::Repeat),
+    Format::Tape(Edition::Sum),
+];
 
 impl Format {
     /// What stands in a heading behind the number of cells.
     fn sign(self) -> char {
         match self {
             Format::Srec => ' ',
-            Format::Tape => ';',
+            Format::Tape(Edition::Repeat) => ';',
+            Format::Tape(Edition::Sum) => '+',
         }
     }
 }
@@ -67,18 +73,19 @@ impl Case {
     /// What `vectors` has to print for it.
     pub fn answer(&self) -> Vec<u8> {
         let (mut memory, mut marks) = (vec![0; self.cells], vec![0; self.cells]);
-        let (load, write): (Loader, Writer) = match self.format {
-            Format::Srec => (load, write),
-            Format::Tape => (load_tape, write_tape),
+        let calls = match self.format {
+            Format::Srec => &RECORDS,
+            Format::Tape(edition) => tapes::of(edition),
         };
-        let loaded = load(&self.text, self.base, &mut memory, &mut marks);
+        let loaded = (calls.load)(&self.text, self.base, &mut memory, &mut marks);
         let mut printed = self.heading() + &answer_line(&loaded);
         if loaded.refusal.number != 0 {
             return printed.into_bytes();
         }
         let header = &loaded.header[..loaded.header_len];
         let mut out = vec![0; ROOM];
-        let written = write(self.base, &memory, &marks, header, loaded.entry, &mut out);
+        let entry = loaded.entry;
+        let written = (calls.write)(self.base, &memory, &marks, header, entry, &mut out);
         if written.refusal.number != 0 {
             printed += &(refusal_words(&written.refusal) + "\n");
         }

@@ -2,6 +2,7 @@
 //! the proved library to the same file.
 
 use second::script::{parse, Case, Format};
+use second::tape::Edition;
 use std::fs;
 use std::path::Path;
 
@@ -22,27 +23,34 @@ fn answers_are_those_worked_out_by_hand() {
 fn script_is_parsed_whole() {
     let script = file("stdin");
     let cases = parse(&script).unwrap();
-    let tapes = cases.iter().filter(|case| case.format == Format::Tape);
-    let tapes = tapes.count();
-    assert!(cases.len() - tapes >= 75 && tapes >= 63);
+    for (format, least) in [(Format::Srec, 75), (REPEAT, 64), (SUM, 19)] {
+        let cases = cases.iter().filter(|case| case.format == format);
+        assert!(cases.count() >= least, "{format:?}");
+    }
     assert_eq!(
         cases.iter().flat_map(Case::script).collect::<Vec<u8>>(),
         script
     );
 }
 
-/// A space or `;` behind the number of cells, and nothing in the name or the
-/// text, says which calls a case is for.
+const REPEAT: Format = Format::Tape(Edition::Repeat);
+const SUM: Format = Format::Tape(Edition::Sum);
+
+/// A space, `;` or `+` behind the number of cells, and nothing in the name or
+/// the text, says which calls a case is for.
 #[test]
 fn headings_name_the_format() {
     let script = b"@00000000:00000010 ;tape; a\n;0000000000\n\
-        @00000000:00000010; b: c\n;010001bb00bd\0;0000010001@00000000:00000010;\nS9030000FC\n";
+        @00000000:00000010; b: c\n;010001bb00bd\0;0000010001@00000000:00000010;\nS9030000FC\n\
+        @00000000:00000010;+\n;0001000100@00000000:00000010+;\n;0001000100";
     let cases = parse(script).unwrap();
     let found: Vec<(Format, &str)> = cases.iter().map(|c| (c.format, &c.name[..])).collect();
     let wanted = [
         (Format::Srec, ";tape; a"),
-        (Format::Tape, " b: c"),
-        (Format::Tape, ""),
+        (REPEAT, " b: c"),
+        (REPEAT, ""),
+        (REPEAT, "+"),
+        (SUM, ";"),
     ];
     assert_eq!(found, wanted);
     let scripts: Vec<u8> = cases.iter().flat_map(Case::script).collect();
@@ -56,7 +64,9 @@ fn headings_name_the_format() {
             @00000000:00000010; b: c\n\
             0 record 0 at 0 want 00 records 1 cells 1 entry none header 0:\n\
             ;010001BB00BD\r\n;0000010001\r\n\
-            @00000000:00000010;\n4 {refused}"
+            @00000000:00000010;\n4 {refused}\
+            @00000000:00000010;+\n10 {refused}\
+            @00000000:00000010+;\n7 {refused}"
         )
     );
     for heading in ["@0:10\n", "@0:10,a\n", "@0 10;a\n", "@0:10"] {

@@ -16,9 +16,9 @@ returns c =
 returns-2 : tie.Need-returns-2
 returns-2 c =
     let w = c .before .before in
-    let told = w .before .before in
+    let told = w .before .before .before in
     let a = told .before .before .before .before .before .before .args in
-    write-chosen (a .format) _ (told .enum-told2 .given .1) (windowOf (a .base) (a .memory .now) (a .marks .now)) (a .header .now) (a .entry)
+    write-chosen (a .format) _ (told .format .given .1) (windowOf (a .base) (a .memory .now) (a .marks .now)) (a .header .now) (a .entry)
     (a .out .now) _ _ (w .write2 .ensures)
 
 pub write-as-spec : {M : Type 1} → statement M

@@ -2,7 +2,7 @@
 use mathlib.Core.Path.{ap, _∙_}
 use Prim.Native.Nat.{ℕ, _+_, _*_}
 use lib.ListN.{drop}
-use Rattle.formats.specs.declared.Format.the-variants.{Records, Tape}
+use Rattle.formats.specs.declared.Format.the-variants.{Records}
 use Rattle.lines.proofs.CountLaws.{size-chosen, size-records, size-tape}
 use borrow.Author.Needs.{needs}
 use Rattle.lines.proofs.size_at.Statement.{statement}
@@ -19,8 +19,8 @@ returns-2 : tie.Need-returns-2
 returns-2 c =
     let at-told = c .before .before .before in
     let a = at-told .before .before .before .args in
-    size-chosen (a .format) Tape (at-told .enum-told2 .given .1) (drop (a .from) (a .text .now)) _
-    (ap (λ (n : ℕ). 11 + 2 * n) (c .byte-of2 .ensures) ∙ size-tape (a .text .now) (a .from))
+    size-chosen (a .format) _ (at-told .enum-told2 .given .1) (drop (a .from) (a .text .now)) _
+    (ap (λ (n : ℕ). 11 + 2 * n) (c .byte-of2 .ensures) ∙ size-tape (at-told .enum-told2 .given .0 .0) (a .text .now) (a .from))
 
 pub size-at-spec : {M : Type 1} → statement M
 size-at-spec =

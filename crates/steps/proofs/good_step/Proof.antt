@@ -11,8 +11,9 @@ returns c =
 
 returns-2 : tie.Need-returns-2
 returns-2 c =
-    let a = c .before .before .before .before .args in
-    sure-chosen (a .format) _ (c .before .enum-told2 .given .1) (a .state) (a .place) (a .chars .now) (c .good-step2 .result) (c .good-step2 .ensures)
+    let told = c .before .before in
+    let a = told .before .before .before .args in
+    sure-chosen (a .format) _ (told .format .given .1) (a .state) (a .place) (a .chars .now) (c .good-step2 .result) (c .good-step2 .ensures)
 
 pub good-step-spec : {M : Type 1} → statement M
 good-step-spec =

@@ -11,8 +11,9 @@ returns c =
 
 returns-2 : tie.Need-returns-2
 returns-2 c =
-    let a = c .before .before .before .before .args in
-    step-chosen (a .format) _ (c .before .enum-told2 .given .1) (a .state) (a .place) (a .chars .now) _ (c .step-of2 .ensures)
+    let told = c .before .before in
+    let a = told .before .before .before .args in
+    step-chosen (a .format) _ (told .format .given .1) (a .state) (a .place) (a .chars .now) _ (c .step-of2 .ensures)
 
 pub step-of-spec : {M : Type 1} → statement M
 step-of-spec =

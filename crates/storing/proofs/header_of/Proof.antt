@@ -1,7 +1,7 @@
 -- `header_of` meets its contract: the first record's header, and none of a tape.
 use mathlib.Core.Path.{_∙_}
 use Rattle.text.specs.Lines.{lines}
-use Rattle.tape.specs.Formats.{tape}
+use Rattle.tape.specs.Lines.{isGap}
 use Rattle.storing.proofs.LineLaws.{tape-untitled}
 use Rattle.storing.proofs.ChosenLaws.{header-chosen}
 use borrow.Author.Needs.{needs}
@@ -17,7 +17,7 @@ returns-2 : tie.Need-returns-2
 returns-2 c =
     let a = c .before .before .before .before .args in
     header-chosen (a .format) _ (c .before .enum-told2 .given .1) (a .text .now) _
-    (c .no-header .ensures ∙ tape-untitled (lines (tape .gap) 0 (a .text .now)))
+    (c .no-header .ensures ∙ tape-untitled (lines isGap 0 (a .text .now)))
 
 pub header-of-spec : {M : Type 1} → statement M
 header-of-spec =

@@ -30,21 +30,23 @@ abbrev len : tie.After-known-told → ℕ
 len c = c .before .line .given .0 .1 .0
 
 -- what the good answer says
-checked-at : (c : tie.After-known-told) → CheckedIs (Good (address c) (len c)) (chars c)
-checked-at c = subst (λ (r : Line). CheckedIs r (chars c)) (c .before .line .given .1) (done c .read-checked .ensures)
+checked-at : (c : tie.After-known-told) → CheckedIs (call c .args .edition) (Good (address c) (len c)) (chars c)
+checked-at c = subst (λ (r : Line). CheckedIs (call c .args .edition) r (chars c)) (c .before .line .given .1) (done c .read-checked .ensures)
 
 got-at : (c : tie.After-known-told) → LineGot (chars c) (address c) (len c)
 got-at c = line-got (chars c) 0 (address c) (len c) (checked-at c .0)
 
 judge-requires : tie.Need-judge-requires
-judge-requires c κs = let s = call c in judge-fits (s .args .place) (s .args .state) (chars c) (address c) (len c) (got-at c) (s .pre .1)
+judge-requires c κs =
+    let s = call c in
+    judge-fits (s .args .edition) (s .args .place) (s .args .state) (chars c) (address c) (len c) (got-at c) (s .pre .1)
 
 returns-2 : tie.Need-returns-2
 returns-2 c =
     let k = c .before in
     let a = call k .args in
     let g = got-at k in (
-      c .judge .ensures ∙ step-good (a .place) (a .state) (chars k) (address k) (len k) g (checked-at k .1),
+      c .judge .ensures ∙ step-good (a .edition) (a .place) (a .state) (chars k) (address k) (len k) g (checked-at k .1),
       omega (arith, g .long),
       line-front (chars k) (address k) (len k) g,
     )

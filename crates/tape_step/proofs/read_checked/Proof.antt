@@ -9,7 +9,7 @@ use Rattle.hex.specs.Digits.{firstBad}
 use Rattle.hex.specs.Numbers.{sum}
 use Rattle.hex_sum.specs.Sums.{Tells}
 use Rattle.tape.specs.Reading.{lengthIn, covered}
-use Rattle.tape_step.proofs.LineFieldLaws.{bs, high, low, length-at, address-at, LineGot, line-is, check-by, check-is, sum-is}
+use Rattle.tape_step.proofs.LineFieldLaws.{bs, high, low, length-at, address-at, LineGot, line-is, check-given, check-is, sum-is}
 use Rattle.tape_step.proofs.LineReadLaws.{LineHead, line-good}
 use Rattle.tape_step.proofs.LineStepLaws.{no-row-7}
 use borrow.Author.Needs.{needs}
@@ -78,8 +78,8 @@ returns-7 c =
     let s : e .before .sum-digits .result - (k .before .before .before .byte-of2 .result + k .byte-of3 .result) ≡ sum (covered (bs (own e)))
     = omega (arith, sum-at k, high-at k, low-at k) in (
       line-is (own e) (at-number .number-of .result) (len e) 0 g,
-      no-row-7 (own e) _ _ (omega (arith, high-at k, low-at k, check-is (own e) (len e) (length-is e) (long-at e)))
-          (at-check .check-of .ensures ∙ check-by (own e) _ _ _ g s) (c .if6 .left),
+      no-row-7 _ (own e) _ _ (omega (arith, high-at k, low-at k, check-is (own e) (len e) (length-is e) (long-at e)))
+          (check-given _ (own e) _ _ _ _ g s (at-check .check-of .ensures)) (c .if6 .left),
     )
 
 pub read-checked-spec : {M : Type 1} → statement M

@@ -10,7 +10,7 @@ use Rattle.hex.proofs.DigitTableLaws.{weigh-sum}
 use Rattle.tape.specs.Reading.{covered, checkIn}
 use Rattle.tape.specs.Judging.{checkOf}
 use Rattle.tape_step.specs.Answers.{refusing}
-use Rattle.tape_step.proofs.LineFieldLaws.{bs, covered-at, check-at, LineGot, line-got, check-by}
+use Rattle.tape_step.proofs.LineFieldLaws.{bs, covered-at, check-at, LineGot, line-got, check-given}
 use Rattle.tape_step.proofs.LineStepLaws.{step-bad, judge-fits, row-7, no-row-7, step-good}
 use borrow.Author.Needs.{needs}
 use Rattle.tape_step.proofs.step_of.Statement.{statement}
@@ -47,8 +47,8 @@ sum-at c =
 given-at : (c : tie.After-check-of) → c .before .number-of .result ≡ checkIn (bs (chars (known c)))
 given-at c = let g = got-at (known c) in c .before .number-of .ensures ∙ check-at (chars (known c)) (len (known c)) (g .len-is) (g .long)
 
-right-at : (c : tie.After-check-of) → c .check-of .result ≡ checkOf (covered (bs (chars (known c))))
-right-at c = c .check-of .ensures ∙ check-by _ _ _ _ (got-at (known c)) (sum-at (c .before .before .before))
+right-at : (c : tie.After-check-of) → c .check-of .result ≡ checkOf (call (known c) .args .edition) (covered (bs (chars (known c))))
+right-at c = check-given _ _ _ _ _ _ (got-at (known c)) (sum-at (c .before .before .before)) (c .check-of .ensures)
 
 returns : tie.Need-returns
 returns c =
@@ -57,7 +57,7 @@ returns c =
     let a = at-read .before .before .args in
     c .unread .ensures
     ∙ ap refusing (told .1)
-    ∙ step-bad (a .place) (a .state) (a .chars .now) (told .0 .0) (told .0 .1 .0) (sym (told .1) ∙ at-read .read-line .ensures)
+    ∙ step-bad (a .edition) (a .place) (a .state) (a .chars .now) (told .0 .0) (told .0 .1 .0) (sym (told .1) ∙ at-read .read-line .ensures)
 
 mul-end : tie.Need-mul-end
 mul-end c = let g = got-at c in omega (arith, g .short, g .long)
@@ -89,13 +89,13 @@ returns-2 c =
     let at-check = c .before in
     let k = known at-check in
     let a = call k .args in
-    row-7 (a .place) (a .state) (a .chars .now) _ _ (got-at k) _ _ (given-at at-check) (right-at at-check) (c .if1 .taken)
+    row-7 (a .edition) (a .place) (a .state) (a .chars .now) _ _ (got-at k) _ _ (given-at at-check) (right-at at-check) (c .if1 .taken)
 
 judge-requires : tie.Need-judge-requires
 judge-requires c κs =
     let k = known (c .before) in
     let s = call k in
-    judge-fits (s .args .place) (s .args .state) (chars k) _ _ (got-at k) (s .pre .1)
+    judge-fits (s .args .edition) (s .args .place) (s .args .state) (chars k) _ _ (got-at k) (s .pre .1)
 
 returns-3 : tie.Need-returns-3
 returns-3 c =
@@ -103,8 +103,8 @@ returns-3 c =
     let k = known at-check in
     let a = call k .args in
     c .judge .ensures
-    ∙ step-good (a .place) (a .state) (a .chars .now) _ _ (got-at k)
-    (no-row-7 (a .chars .now) _ _ (given-at at-check) (right-at at-check) (c .before .if1 .left))
+    ∙ step-good (a .edition) (a .place) (a .state) (a .chars .now) _ _ (got-at k)
+    (no-row-7 (a .edition) (a .chars .now) _ _ (given-at at-check) (right-at at-check) (c .before .if1 .left))
 
 pub step-of-spec : {M : Type 1} → statement M
 step-of-spec =

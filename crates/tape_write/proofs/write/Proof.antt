@@ -12,6 +12,7 @@ use Rattle.window.specs.Cells.{shown}
 use Rattle.text.proofs.WriteLaws.{Call, row-1, is-allowed, fits, declines, accepts}
 use Rattle.marks.specs.declared.Form.the-variants.{Bytes}
 use Rattle.marks.proofs.FormLaws.{bad-at, no-bad}
+use Rattle.tape.specs.declared.Edition.{Edition}
 use Rattle.tape.specs.Canonical.{canonical}
 use Rattle.tape.specs.Formats.{row19, tape}
 use Rattle.formats.specs.declared.Format.the-variants.{Tape}
@@ -30,6 +31,9 @@ given c =
     let a = c .before .before .before .before .before .args in
     record { window = windowOf (a .base) (a .memory .now) (a .marks .now); header = a .header .now; entry = a .entry; room = length (a .out .now) }
 
+abbrev edition : tie.After-is-allowed → Edition
+edition c = c .before .before .before .before .before .args .edition
+
 abbrev out : tie.After-is-allowed → List ℕ
 out c = c .before .before .before .before .before .args .out .now
 
@@ -43,6 +47,9 @@ behind-16 c = c .before .before .before
 abbrev asked : tie.After-enum-told → Call
 asked c = given (behind-16 c .before)
 
+abbrev told : tie.After-enum-told → Edition
+told c = edition (behind-16 c .before)
+
 none : (c : tie.After-enum-told) → row16 (asked c .window .marks) ≡ false
 none c =
     no-bad Bytes (length (asked c .window .memory)) (asked c .window .marks) (sym (c .enum-told .given .1) ∙ c .before .before .first-bad .ensures)
@@ -52,13 +59,13 @@ abbrev behind-19 : tie.After-first-above → tie.After-enum-told
 behind-19 c = c .before .before .before
 
 alone : (c : tie.After-first-above) → let k = asked (behind-19 c) in row19 (k .header) (k .entry) ≡ false
-alone c = sym (c .before .before .is-more .ensures) ∙ c .before .if2 .left
+alone c = sym (c .before .before .has-extras .ensures) ∙ c .before .if2 .left
 
 returns : tie.Need-returns
 returns c =
     let s = c .before .before in
-    declines tape (given s) (refusal 1 0 0) (c .refused-write .result) (out s)
-    (row-1 tape (given s) (s .is-allowed .ensures) (not-true _ (c .before .if1 .taken))) (c .refused-write .ensures)
+    declines (tape (edition s)) (given s) (refusal 1 0 0) (c .refused-write .result) (out s)
+    (row-1 (tape (edition s)) (given s) (s .is-allowed .ensures) (not-true _ (c .before .if1 .taken))) (c .refused-write .ensures)
 
 first-bad-requires : tie.Need-first-bad-requires
 first-bad-requires c κs = fits (given (c .before)) (allowed c) .0
@@ -70,8 +77,8 @@ returns-2 c =
     let e = at-first .before in
     let s = e .before in
     let place = at-bad .bad .given .0 .0 in
-    declines tape (given s) (refusal 16 0 place) (c .refused-write2 .result) (out s)
-    (row-16 (given s) (allowed e) place
+    declines (tape (edition s)) (given s) (refusal 16 0 place) (c .refused-write2 .result) (out s)
+    (row-16 (edition s) (given s) (allowed e) place
     (bad-at Bytes (length (given s .window .memory)) (given s .window .marks) place (sym (at-bad .bad .given .1) ∙ at-first .first-bad .ensures)))
     (c .refused-write2 .ensures)
 
@@ -79,8 +86,8 @@ returns-3 : tie.Need-returns-3
 returns-3 c =
     let at-more = c .before .before in
     let t = at-more .before in
-    declines tape (asked t) (refusal 19 0 0) (c .refused-write3 .result) (out (behind-16 t .before))
-    (row-19 (asked t) (allowed (behind-16 t)) (none t) (sym (at-more .is-more .ensures) ∙ c .before .if2 .taken)) (c .refused-write3 .ensures)
+    declines (tape (told t)) (asked t) (refusal 19 0 0) (c .refused-write3 .result) (out (behind-16 t .before))
+    (row-19 (told t) (asked t) (allowed (behind-16 t)) (none t) (sym (at-more .has-extras .ensures) ∙ c .before .if2 .taken)) (c .refused-write3 .ensures)
 
 first-above-requires : tie.Need-first-above-requires
 first-above-requires c κs = let t = c .before .before in fits (asked t) (allowed (behind-16 t)) .0
@@ -91,8 +98,8 @@ returns-4 c =
     let t = behind-19 at-above in
     let above = at-above .first-above .result in
     let long = fits (asked t) (allowed (behind-16 t)) .0 in
-    declines tape (asked t) (refusal 11 0 above) (c .refused-write4 .result) (out (behind-16 t .before))
-    (row-11 (asked t) (allowed (behind-16 t)) (none t) (alone at-above) above (at-above .first-above .ensures)
+    declines (tape (told t)) (asked t) (refusal 11 0 above) (c .refused-write4 .result) (out (behind-16 t .before))
+    (row-11 (told t) (asked t) (allowed (behind-16 t)) (none t) (alone at-above) above (at-above .first-above .ensures)
     (omega (arith, c .before .if3 .taken, long)))
     (c .refused-write4 .ensures)
 
@@ -107,7 +114,7 @@ size-of-requires : tie.Need-size-of-requires
 size-of-requires c κs = let t = behind-19 (c .before) in let f = fits (asked t) (allowed (behind-16 t)) in (f .1, f .0)
 
 -- the tape's size and length are as measured
-sized : (c : tie.After-size-of) → c .size-of .result ≡ sizeOf Tape (shown (asked (behind-19 (behind-11 c)) .window)) 0
+sized : (c : tie.After-size-of) → c .size-of .result ≡ sizeOf (Tape (told (behind-19 (behind-11 c)))) (shown (asked (behind-19 (behind-11 c)) .window)) 0
 sized c = c .size-of .ensures .0 (asked (behind-19 (behind-11 c)) .window .memory) refl
 
 tape-length-requires : tie.Need-tape-length-requires
@@ -118,10 +125,10 @@ tape-length-requires c κs =
     (omega (arith, n, f), omega (arith, n, f))
 
 abbrev text : tie.After-tape-length → List ℕ
-text c = canonical (shown (asked (behind-19 (behind-11 (c .before))) .window))
+text c = canonical (told (behind-19 (behind-11 (c .before)))) (shown (asked (behind-19 (behind-11 (c .before))) .window))
 
 needed : (c : tie.After-tape-length) → c .tape-length .result ≡ length (text c)
-needed c = need-is _ (c .before .size-of .result) (c .tape-length .result) (sized (c .before)) (c .tape-length .ensures)
+needed c = need-is _ _ (c .before .size-of .result) (c .tape-length .result) (sized (c .before)) (c .tape-length .ensures)
 
 returns-5 : tie.Need-returns-5
 returns-5 c =
@@ -129,8 +136,8 @@ returns-5 c =
     let at-above = behind-11 (at-length .before) in
     let t = behind-19 at-above in
     let need = needed at-length in
-    declines tape (asked t) (refusal 17 0 (length (text at-length))) (c .refused-write5 .result) (out (behind-16 t .before))
-    (row-17 (asked t) (allowed (behind-16 t)) (none t) (alone at-above) (at-above .first-above .result) (at-above .first-above .ensures)
+    declines (tape (told t)) (asked t) (refusal 17 0 (length (text at-length))) (c .refused-write5 .result) (out (behind-16 t .before))
+    (row-17 (told t) (asked t) (allowed (behind-16 t)) (none t) (alone at-above) (at-above .first-above .result) (at-above .first-above .ensures)
     (low (at-length .before .before)) (omega (arith, need, c .before .if4 .taken)))
     (rw need at (c .refused-write5 .ensures))
 
@@ -161,9 +168,9 @@ returns-6 c =
     let at-above = behind-11 (at-length .before) in
     let t = behind-19 at-above in
     let need = needed at-length in
-    accepts tape (asked t) (text at-length) (c .accepted-write .result) (out (behind-16 t .before)) (at-put .put-tape .last .0)
+    accepts (tape (told t)) (asked t) (text at-length) (c .accepted-write .result) (out (behind-16 t .before)) (at-put .put-tape .last .1 .0)
     (at-length .tape-length .result)
-    (is-written (asked t) (allowed (behind-16 t)) (none t) (alone at-above) (at-above .first-above .result) (at-above .first-above .ensures)
+    (is-written (told t) (asked t) (allowed (behind-16 t)) (none t) (alone at-above) (at-above .first-above .result) (at-above .first-above .ensures)
     (low (at-length .before .before)) (omega (arith, need, at-if4 .if4 .left)))
     need (c .accepted-write .ensures) (at-put .put-tape .ensures)
 

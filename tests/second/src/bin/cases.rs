@@ -1,11 +1,12 @@
 //! Prints small cases with their results, one line of JSON for each.
 
-use second::cases::tapes::TAPES;
+use second::cases::tapes::{SUM_TAPES, TAPES};
 use second::cases::{Drawing, RECORDS};
 use std::io::{self, BufWriter, Write};
 use std::process::ExitCode;
 
-const USAGE: &str = "usage: cases load|write|load-tape|write-tape SEED COUNT";
+const USAGE: &str =
+    "usage: cases load|write|load-tape|write-tape|load-tape-sum|write-tape-sum SEED COUNT";
 
 fn main() -> ExitCode {
     let arguments: Vec<String> = std::env::args().skip(1).collect();
@@ -34,6 +35,8 @@ fn parse(arguments: &[String]) -> Option<(Line, u64, u64)> {
         "write" => |seed, index| write_line(&RECORDS, seed, index),
         "load-tape" => |seed, index| load_line(&TAPES, seed, index),
         "write-tape" => |seed, index| write_line(&TAPES, seed, index),
+        "load-tape-sum" => |seed, index| load_line(&SUM_TAPES, seed, index),
+        "write-tape-sum" => |seed, index| write_line(&SUM_TAPES, seed, index),
         _ => return None,
     };
     Some((line, seed.parse().ok()?, count.parse().ok()?))

@@ -1,12 +1,27 @@
 //! Tapes.
 
 use super::{unequal_marks_are_refused, unwritten, Outcome};
-use second::reading::Refusal;
-use second::tape::{canonical_tape, load_tape, write_tape};
+use second::cases::tapes;
+use second::reading::{Refusal, Written};
+use second::tape::Edition::{Repeat, Sum};
+use second::tape::{self, Edition, EDITIONS};
 
+/// For a tape on which the editions agree: one with fewer than 256 data lines
+/// whose last line has such a number, too.
 #[track_caller]
 fn load_at(text: &str, base: u32, length: usize) -> Outcome {
-    let outcome = super::load_at(load_tape, text, base, length);
+    let [outcome, other] = EDITIONS.map(|edition| load_in(edition, text, base, length));
+    assert_eq!(outcome.loaded, other.loaded);
+    assert_eq!(
+        (&outcome.memory, &outcome.marks),
+        (&other.memory, &other.marks)
+    );
+    outcome
+}
+
+#[track_caller]
+fn load_in(edition: Edition, text: &str, base: u32, length: usize) -> Outcome {
+    let outcome = super::load_at(tapes::of(edition).load, text, base, length);
     // Also in an accepted one, and no right check is told in row 7.
     let loaded = &outcome.loaded;
     assert_eq!((loaded.header_len, loaded.header), (0, [0; 252]));
@@ -23,6 +38,12 @@ fn refusal(text: &str) -> (u32, usize, usize) {
 #[track_caller]
 fn refusal_at(text: &str, base: u32, length: usize) -> (u32, usize, usize) {
     load_at(text, base, length).refusal()
+}
+
+/// The same in one edition: in the other it may be another one.
+#[track_caller]
+fn refusal_in(edition: Edition, text: &str) -> (u32, usize, usize) {
+    load_in(edition, text, 0, 1024).refusal()
 }
 
 /// The tape must be accepted with so many data lines and cells, and written
@@ -43,6 +64,30 @@ fn accepted_at(text: &str, window: (u32, usize), counts: (usize, usize), wanted:
 #[track_caller]
 fn accepted(text: &str, counts: (usize, usize), wanted: &str) {
     accepted_at(text, (0, 1024), counts, wanted);
+}
+
+/// What both editions answer and write: there are fewer than 256 data lines.
+#[track_caller]
+fn write_tape(
+    base: u32,
+    memory: &[u8],
+    marks: &[u8],
+    header: &[u8],
+    entry: Option<u32>,
+    out: &mut [u8],
+) -> Written {
+    let mut other = out.to_vec();
+    let [written, again] = [(Repeat, &mut *out), (Sum, &mut other[..])]
+        .map(|(edition, out)| tape::write_tape(edition, base, memory, marks, header, entry, out));
+    assert_eq!((written, out), (again, &mut other[..]));
+    written
+}
+
+#[track_caller]
+fn canonical_tape(base: u32, memory: &[u8], marks: &[u8]) -> Vec<u8> {
+    let [tape, other] = EDITIONS.map(|edition| tape::canonical_tape(edition, base, memory, marks));
+    assert_eq!(tape, other);
+    tape
 }
 
 /// The canonical tape with lines ended by LF, to be read more easily.
@@ -94,9 +139,12 @@ fn what_the_pages_say_and_the_rules_refuse() {
     assert_eq!(refusal(&format!(" {KIM}")), (4, 1, 0));
     // One page's tapes behind each other: 59 + 1 + 11 + 1 characters.
     assert_eq!(refusal(&format!("{KIM}{HELLO}")), (2, 3, 72));
-    // The last line's usual sum is another one from 256 lines on.
+    // The last line's usual sum, as the manual has it, is another one than the
+    // number, as the page has it, from 256 lines on: each refuses the other's.
     let lines = one_cell_lines(256);
-    assert_eq!(refusal(&format!("{lines};0001000001")), (7, 257, 256 * 14));
+    let [number, sum] = [";0001000100", ";0001000001"].map(|last| format!("{lines}{last}"));
+    assert_eq!(refusal_in(Repeat, &sum), (7, 257, 256 * 14));
+    assert_eq!(refusal_in(Sum, &number), (7, 257, 256 * 14));
     // An S-record text is no tape, and a tape's line no S-record.
     assert_eq!(refusal("S9030000FC"), (4, 1, 0));
 }
@@ -135,7 +183,9 @@ fn no_last_line() {
 
 #[test]
 fn window_that_is_not_allowed() {
-    unequal_marks_are_refused(load_tape, ";0000000000");
+    for edition in EDITIONS {
+        unequal_marks_are_refused(tapes::of(edition).load, ";0000000000");
+    }
     assert_eq!(refusal_at(";0000000000", 0xFFFF_FFFF, 2), (1, 0, 0));
     assert_eq!(refusal_at(";0000000000", 0xFFFF_FFFF, 1), (0, 0, 0));
     assert_eq!(refusal_at("x", 0xFFFF_FFFF, 2), (1, 0, 0));
@@ -308,42 +358,132 @@ fn numbers_of_data_lines() {
     assert_eq!(refusal(";0000010001"), (10, 1, 0));
     assert_eq!(refusal(";010000AA00AB\n;0000000000"), (10, 2, 14));
     assert_eq!(refusal(";010000AA00AB\n;0000020002"), (10, 2, 14));
-    assert_eq!(refusal(";0001000100"), (10, 1, 0));
     // It is lines that count, not cells: 02 + AA + BB is 167.
     let two_cells = ";020000AABB0167\n";
     assert_eq!(refusal(&format!("{two_cells};0000020002")), (10, 2, 16));
     assert_eq!(refusal(&format!("{two_cells};0000010001")), (0, 0, 0));
 }
 
+/// So many data lines and this last line must be accepted in an edition.
+#[track_caller]
+fn accepted_lines(edition: Edition, number: usize, last: &str) {
+    let text = one_cell_lines(number) + last;
+    let outcome = load_in(edition, &text, 0, 1024);
+    assert_eq!(outcome.loaded.refusal, Refusal::default(), "{last}");
+    assert_eq!(outcome.counts(), (number, number, None));
+    let bytes: Vec<u8> = (0..number).map(|address| address as u8).collect();
+    assert_eq!(outcome.memory[..number], bytes);
+}
+
+/// So many data lines and this last line must be refused, by such a number in
+/// each edition.
+#[track_caller]
+fn refused_lines(number: usize, last: &str, (repeat, sum): (u32, u32)) {
+    let text = one_cell_lines(number) + last;
+    let place = number * 14;
+    assert_eq!(refusal_in(Repeat, &text), (repeat, number + 1, place));
+    assert_eq!(refusal_in(Sum, &text), (sum, number + 1, place));
+}
+
 #[test]
 fn about_256_data_lines() {
-    for (number, last) in [
-        (255, ";0000FF00FF"),
-        (256, ";0001000100"),
-        (257, ";0001010101"),
-        (600, ";0002580258"),
+    for (number, repeat, sum) in [
+        (254, ";0000FE00FE", ";0000FE00FE"),
+        (255, ";0000FF00FF", ";0000FF00FF"),
+        (256, ";0001000100", ";0001000001"),
+        (257, ";0001010101", ";0001010002"),
+        // 01 + FF is 100; 02 + 00 is 2; 02 + 58 is 5A.
+        (511, ";0001FF01FF", ";0001FF0100"),
+        (512, ";0002000200", ";0002000002"),
+        (600, ";0002580258", ";000258005A"),
     ] {
-        let text = one_cell_lines(number) + last;
-        let outcome = load_at(&text, 0, 1024);
-        assert_eq!(outcome.loaded.refusal, Refusal::default(), "{number}");
-        assert_eq!(outcome.counts(), (number, number, None));
-        let bytes: Vec<u8> = (0..number).map(|address| address as u8).collect();
-        assert_eq!(outcome.memory[..number], bytes);
+        accepted_lines(Repeat, number, repeat);
+        accepted_lines(Sum, number, sum);
+        if repeat != sum {
+            let place = number * 14;
+            let lines = one_cell_lines(number);
+            assert_eq!(
+                refusal_in(Repeat, &(lines.clone() + sum)),
+                (7, number + 1, place)
+            );
+            assert_eq!(refusal_in(Sum, &(lines + repeat)), (7, number + 1, place));
+        }
     }
-    let lines = one_cell_lines(256);
-    let place = 256 * 14;
-    // The usual sum; a number of one byte; the check of another number.
-    assert_eq!(refusal(&format!("{lines};0001000001")), (7, 257, place));
-    assert_eq!(refusal(&format!("{lines};0000000000")), (10, 257, place));
-    assert_eq!(refusal(&format!("{lines};0000000100")), (7, 257, place));
-    assert_eq!(refusal(&format!("{lines};0000FF00FF")), (10, 257, place));
-    assert_eq!(refusal(&format!("{lines};0001000101")), (7, 257, place));
-    // 0100 is 10 behind fewer lines, 255 of them.
-    let lines = one_cell_lines(255);
-    assert_eq!(refusal(&format!("{lines};0001000100")), (10, 256, 255 * 14));
-    // Number 0101: the usual sum is 2.
-    let lines = one_cell_lines(257);
-    assert_eq!(refusal(&format!("{lines};0001010002")), (7, 258, 257 * 14));
+}
+
+#[test]
+fn wrong_last_lines_of_256() {
+    // A number of one byte; the check of another number; neither check.
+    refused_lines(256, ";0000000000", (10, 10));
+    refused_lines(256, ";0000FF00FF", (10, 10));
+    refused_lines(256, ";0000000100", (7, 7));
+    refused_lines(256, ";0000000001", (7, 7));
+    refused_lines(256, ";0001000101", (7, 7));
+    refused_lines(256, ";0001000002", (7, 7));
+    refused_lines(256, ";0001000000", (7, 7));
+    // 0100 is 10 behind fewer lines or more, if its check is that of the edition.
+    for number in [255, 257] {
+        refused_lines(number, ";0001000100", (10, 7));
+        refused_lines(number, ";0001000001", (7, 10));
+    }
+    // A sum modulo 256, and one carried into the first byte wrongly.
+    refused_lines(511, ";0001FF0000", (7, 7));
+    refused_lines(511, ";0001FF0001", (7, 7));
+}
+
+/// The last line alone, with a number that is wrong anyway: its check is tried
+/// first, and by the edition.
+#[test]
+fn check_before_number() {
+    for (last, repeat, sum) in [
+        (";0000010001", 10, 10),
+        (";0000FF00FF", 10, 10),
+        (";0001000100", 10, 7),
+        (";0001000001", 7, 10),
+        (";0001FF01FF", 10, 7),
+        (";0001FF0100", 7, 10),
+        (";0002000200", 10, 7),
+        (";0002000002", 7, 10),
+        // FF + FF is 1FE.
+        (";00FFFFFFFF", 10, 7),
+        (";00FFFF01FE", 7, 10),
+        (";00FF0000FF", 7, 10),
+        (";0001000000", 7, 7),
+        (";0001000010", 7, 7),
+        (";0000010100", 7, 7),
+    ] {
+        assert_eq!(refusal_in(Repeat, last), (repeat, 1, 0), "{last}");
+        assert_eq!(refusal_in(Sum, last), (sum, 1, 0), "{last}");
+    }
+    // In neither edition is the number of lines asked for the check.
+    let line = ";010000AA00AB\n";
+    for (last, repeat, sum) in [(";0001010001", 7, 7), (";0001010002", 7, 10)] {
+        let text = format!("{line}{last}");
+        assert_eq!(refusal_in(Repeat, &text), (repeat, 2, 14), "{last}");
+        assert_eq!(refusal_in(Sum, &text), (sum, 2, 14), "{last}");
+    }
+}
+
+/// Cells that touch no other, so that each is a line.
+#[test]
+fn last_lines_as_written() {
+    for (number, repeat, sum) in [
+        (255, ";0000FF00FF", ";0000FF00FF"),
+        (256, ";0001000100", ";0001000001"),
+        (257, ";0001010101", ";0001010002"),
+        (511, ";0001FF01FF", ";0001FF0100"),
+        (512, ";0002000200", ";0002000002"),
+        (32_768, ";0080008000", ";0080000080"),
+    ] {
+        let memory = vec![0; 2 * number];
+        let marks = [1, 0].repeat(number);
+        for (edition, last) in [(Repeat, repeat), (Sum, sum)] {
+            let tape = tape::canonical_tape(edition, 0, &memory, &marks);
+            let last = format!("\r\n{last}\r\n");
+            assert_eq!(tape.len(), 15 * number + 13);
+            assert!(tape.ends_with(last.as_bytes()), "{number}");
+        }
+    }
 }
 
 #[test]

@@ -2,7 +2,7 @@
 
 use super::super::drawing;
 use crate::random::Random;
-use crate::tape::TAPE;
+use crate::tape::{Edition, REPEAT};
 
 /// A line by its fields, so that each can be made wrong alone.
 #[derive(Clone)]
@@ -29,14 +29,18 @@ impl Draft {
         draft
     }
 
-    /// A last line, right if there are so many data lines.
-    pub fn last(number: u64) -> Draft {
-        Draft {
-            mark: b';',
-            length: 0,
-            number: number as u16,
-            data: Vec::new(),
-            check: number as u16,
+    /// A last line, right in its edition if there are so many data lines.
+    pub fn last(edition: Edition, number: u64) -> Draft {
+        let mut draft = Draft::new(number, &[]);
+        draft.check = draft.right_check(edition);
+        draft
+    }
+
+    /// What the check must be, by the other fields.
+    pub fn right_check(&self, edition: Edition) -> u16 {
+        match edition {
+            Edition::Repeat if self.length == 0 => self.number,
+            _ => self.sum(),
         }
     }
 
@@ -56,8 +60,8 @@ impl Draft {
 }
 
 /// The last line behind so many data lines.
-pub fn last_line(number: usize) -> Vec<u8> {
-    Draft::last(number as u64).text()
+pub fn last_line(edition: Edition, number: usize) -> Vec<u8> {
+    Draft::last(edition, number as u64).text()
 }
 
 /// What stands between lines: as 003 has it, as most systems do, and others.
@@ -75,7 +79,8 @@ const ENDS: [&[u8]; 10] = [
 ];
 
 pub fn join(random: &mut Random, lines: &[Vec<u8>]) -> Vec<u8> {
-    let mut text = drawing::join(random, &TAPE, (&ENDS, 3), lines);
+    // Digits stand where they do in the other edition.
+    let mut text = drawing::join(random, &REPEAT, (&ENDS, 3), lines);
     if random.chance(1, 4) {
         text.push(0x13);
     }

@@ -4,9 +4,10 @@ use super::super::{in_window, Limits, LoadCase};
 use super::draft::{join, last_line, Draft};
 use super::{any_window, valid, REACH};
 use crate::random::Random;
+use crate::tape::{Edition, EDITIONS};
 
 /// Short lines near the ends of the window and of the addresses.
-pub fn at_edges(random: &mut Random, limits: Limits) -> LoadCase {
+pub fn at_edges(edition: Edition, random: &mut Random, limits: Limits) -> LoadCase {
     let (low, high) = any_window(random, limits);
     let mut lines = Vec::new();
     for _ in 0..random.size(1, 4) {
@@ -16,7 +17,7 @@ pub fn at_edges(random: &mut Random, limits: Limits) -> LoadCase {
         let data = random.bytes(length);
         lines.push(Draft::new(address.min(REACH - 1), &data).text());
     }
-    lines.push(last_line(lines.len()));
+    lines.push(last_line(edition, lines.len()));
     let text = join(random, &lines);
     in_window(random, text, (low, high))
 }
@@ -71,7 +72,7 @@ pub fn fixed(random: &mut Random, limits: Limits) -> LoadCase {
 
 /// A line of about 255 data bytes, nearly all of them FF, where the sum is
 /// about 65,536: it wraps if the two bytes of the address come to 256 or more.
-pub fn longest(random: &mut Random, limits: Limits) -> LoadCase {
+pub fn longest(edition: Edition, random: &mut Random, limits: Limits) -> LoadCase {
     let length = random.pick(&[254, 255, 255, 255, 255]);
     let mut data = vec![0xFF; length];
     if random.chance(1, 4) {
@@ -89,7 +90,7 @@ pub fn longest(random: &mut Random, limits: Limits) -> LoadCase {
         1 => line.push(b'0'),
         _ => {}
     }
-    let text = join(random, &[line, last_line(1)]);
+    let text = join(random, &[line, last_line(edition, 1)]);
     let low = address - random.below(3);
     let most = low + limits.window as u64;
     let high = random.pick(&[address + length as u64, most, most, REACH]);
@@ -97,20 +98,31 @@ pub fn longest(random: &mut Random, limits: Limits) -> LoadCase {
 }
 
 /// About 256 data lines, and a last line whose number or check may be wrong.
-pub fn many_lines(random: &mut Random, limits: Limits) -> LoadCase {
+pub fn many_lines(edition: Edition, random: &mut Random, limits: Limits) -> LoadCase {
     let low = random.below(REACH - limits.window as u64);
     let high = low + limits.window as u64;
-    let mut lines = valid::one_cell_lines(random, (low, high));
-    let mut last = Draft::last(lines.len() as u64);
+    let mut lines = valid::one_cell_lines(edition, random, (low, high));
+    let number = lines.len() as u64;
+    let mut last = Draft::last(edition, number);
     match random.below(5) {
-        // The usual sum.
-        0 | 1 => last.check = last.sum(),
+        0 | 1 => last.check = last.right_check(edition.other()),
         // One byte alone.
-        2 => last = Draft::last(lines.len() as u64 % 256),
-        3 => last = Draft::last(lines.len() as u64 + 1),
+        2 => last = Draft::last(edition, number % 256),
+        3 => last = Draft::last(edition, number + 1),
         _ => {}
     }
     lines.push(last.text());
     let text = join(random, &lines);
     in_window(random, text, (low, high))
+}
+
+/// A last line alone with a number of two bytes, and the check of either
+/// edition: row 10 or row 7.
+pub fn either_check(random: &mut Random, limits: Limits) -> LoadCase {
+    let window = any_window(random, limits);
+    let any = random.between(256, REACH - 1);
+    let number = random.pick(&[0x0100, 0x0101, 0x01FF, 0x0200, 0xFFFF, any, any]);
+    let line = last_line(random.pick(&EDITIONS), number as usize);
+    let text = join(random, &[line]);
+    in_window(random, text, window)
 }

@@ -4,25 +4,46 @@ use super::super::Limits;
 use super::draft::{last_line, Draft};
 use super::REACH;
 use crate::random::Random;
+use crate::tape::Edition;
 
 /// Data lines in any order, and the last line.
-pub fn finished(random: &mut Random, limits: Limits, window: (u64, u64)) -> Vec<Vec<u8>> {
+pub fn finished(
+    edition: Edition,
+    random: &mut Random,
+    limits: Limits,
+    window: (u64, u64),
+) -> Vec<Vec<u8>> {
     let cells = (window.0, window.1.min(REACH).max(window.0));
     let mut lines = if random.chance(1, 8) && cells.1 - cells.0 >= 255 {
-        one_cell_lines(random, cells)
+        one_cell_lines(edition, random, cells)
     } else {
         data_lines(random, limits, cells)
     };
     random.shuffle(&mut lines);
-    lines.push(last_line(lines.len()));
+    lines.push(last_line(edition, lines.len()));
     lines
 }
 
-/// About as many lines as need a second digit pair for their number.
-pub fn one_cell_lines(random: &mut Random, (low, high): (u64, u64)) -> Vec<Vec<u8>> {
+/// Numbers of lines where a last line can go wrong: where its number needs a
+/// second digit pair, and where the sum of both pairs does or does no longer.
+fn numbers(edition: Edition) -> &'static [u64] {
+    match edition {
+        Edition::Repeat => &[255, 256, 256, 257],
+        Edition::Sum => &[255, 256, 256, 257, 511, 512],
+    }
+}
+
+/// Lines of one cell, about as many as need a second digit pair for their
+/// number.
+pub fn one_cell_lines(
+    edition: Edition,
+    random: &mut Random,
+    (low, high): (u64, u64),
+) -> Vec<Vec<u8>> {
     let most = high - low;
     let some = random.between(0, most);
-    let number = random.pick(&[255, 256, 256, 257, some, most]).min(most);
+    let numbers = [numbers(edition), &[some, most]].concat();
+    let number = random.pick(&numbers).min(most);
     let mut addresses: Vec<u64> = (low..high).collect();
     random.shuffle(&mut addresses);
     addresses.truncate(number as usize);

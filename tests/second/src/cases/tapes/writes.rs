@@ -4,7 +4,7 @@ use super::super::writes::{room, spoil};
 use super::super::{Limits, WriteCase, TOP};
 use super::{any_window, REACH};
 use crate::random::Random;
-use crate::tape::canonical_tape;
+use crate::tape::{canonical_tape, Edition};
 
 /// A case to which the given rows apply, and none above them.
 pub fn case(random: &mut Random, limits: Limits, rows: &[u32]) -> WriteCase {
@@ -100,11 +100,11 @@ fn header_and_entry(random: &mut Random, wanted: bool) -> (Vec<u8>, Option<u32>)
     }
 }
 
-/// The length of the tape.
+/// The length of the tape, which is the same in both editions.
 fn needed(case: &WriteCase, rows: &[u32]) -> usize {
     let (memory, marks) = (&case.memory, &case.marks);
     if rows.iter().all(|&row| row == 17 || row == 19) {
-        canonical_tape(case.base, memory, marks).len()
+        canonical_tape(Edition::Repeat, case.base, memory, marks).len()
     } else if rows.contains(&17) {
         // There is no tape to measure. The shortest of all has 13 characters,
         // and each cell makes at most one line of 15.

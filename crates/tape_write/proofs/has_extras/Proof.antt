@@ -1,11 +1,11 @@
--- `is_more` meets its contract: a header of some bytes, or else the entry tells.
+-- `has_extras` meets its contract: a header of some bytes, or else the entry tells.
 use mathlib.Core.Path.{refl}
 use lib.ListN.{length}
 use borrow.Author.Tests.{lt-ltb, le-ltb}
 use Rattle.tape.specs.Formats.{row19}
 use borrow.Author.Needs.{needs}
-use Rattle.tape_write.proofs.is_more.Statement.{statement}
-use Rattle.tape_write.proofs.is_more.Tie as tie
+use Rattle.tape_write.proofs.has_extras.Statement.{statement}
+use Rattle.tape_write.proofs.has_extras.Tie as tie
 
 returns : tie.Need-returns
 unfolding row19
@@ -23,5 +23,5 @@ returns-3 c =
     let e = c .before .before in
     rw (le-ltb 0 (length (e .before .args .header .now)) (e .if1 .left), c .enum-told2 .given .1) refl
 
-pub is-more-spec : {M : Type 1} → statement M
-is-more-spec = tie.close (tie.spec returns (λ c. search needs) (λ c. search needs) returns-2 returns-3)
+pub has-extras-spec : {M : Type 1} → statement M
+has-extras-spec = tie.close (tie.spec returns (λ c. search needs) (λ c. search needs) returns-2 returns-3)
