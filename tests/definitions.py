@@ -18,10 +18,11 @@ from collections import Counter
 from pathlib import Path
 
 ROOT = Path(__file__).resolve().parent.parent
-CRATES = ("lists", "hex", "window", "text", "srec", "tape")
+CRATES = ("lists", "hex", "window", "text", "srec", "tape", "parts")
 # the sides that the oracle draws cases of, each with the format whose definitions it is held to
 SIDES = {
     "load": "srec",
+    "load-parts": "srec",
     "write": "srec",
     "load-tape": "(tape Repeat)",
     "write-tape": "(tape Repeat)",
@@ -51,10 +52,13 @@ use Rattle.window.specs.declared.Written.{Written}
 use Rattle.text.specs.Formats.{Format, plan}
 use Rattle.text.specs.Load.{load, loadAnswer, memoryAfter, marksAfter}
 use Rattle.text.specs.Write.{WriteOutcome, write, writeAnswer, outputAfter}
+use Rattle.parts.specs.Agreement.{Ending, inParts}
 
 pub data Case : Type 0 where
   -- format, window and text; the answer, and memory and marks afterwards
   loads : Format → Window → List ℕ → Loaded → List ℕ → List ℕ → Case
+  -- window and the parts of a text of S-records; the answer, and memory and marks afterwards
+  arrives : Window → List (List ℕ) → Loaded → List ℕ → List ℕ → Case
   -- format, window, header, entry and output; the answer, and the output afterwards
   writes : Format → Window → List ℕ → Entry → List ℕ → Written → List ℕ → Case
 
@@ -89,6 +93,9 @@ abbrev pub loadGives : Window → Outcome → Loaded → List ℕ → List ℕ �
 loadGives W o answer memory marks =
     sameLoaded (loadAnswer o) answer && sameList (memoryAfter (W .memory) o) memory && sameList (marksAfter (W .marks) o) marks
 
+abbrev pub endGives : Ending → Loaded → List ℕ → List ℕ → Bool
+endGives x answer memory marks = sameLoaded (x .answer) answer && sameList (x .memory) memory && sameList (x .marks) marks
+
 abbrev pub writeGives : List ℕ → WriteOutcome → Written → List ℕ → Bool
 writeGives out o answer output = sameWritten (writeAnswer o) answer && sameList (outputAfter out o) output
 
@@ -96,6 +103,7 @@ writeGives out o answer output = sameWritten (writeAnswer o) answer && sameList 
 unfoldable pub agrees : Case → Bool
 unfolding {unfoldable}
 agrees (loads F W text answer memory marks) = loadGives W (load W (plan F text)) answer memory marks
+agrees (arrives W parts answer memory marks) = endGives (inParts W parts) answer memory marks
 agrees (writes F W header entry out answer output) = writeGives out (write F W header entry (length out)) answer output
 """
 
@@ -108,7 +116,7 @@ use Rattle.srec.specs.Formats.{srec}
 use Rattle.tape.specs.declared.Edition.the-variants.{Repeat, Sum}
 use Rattle.tape.specs.Formats.{tape}
 use Rattle.sense.specs.Comparison.{agrees}
-use Rattle.sense.specs.Comparison.Case.{loads, writes}
+use Rattle.sense.specs.Comparison.Case.{loads, arrives, writes}
 """
 
 STATEMENT = """
@@ -172,7 +180,8 @@ def refusal(case):
     return record(reason=case["number"], ordinal=case["record"], place=case["place"], want=case["want"])
 
 
-def load_case(format, case):
+def loaded(case):
+    """The answer of a load, and memory and marks afterwards."""
     header = case["header"]
     answer = record(
         refusal=refusal(case),
@@ -181,8 +190,15 @@ def load_case(format, case):
         records=case["records"],
         cells=case["cells"],
     )
-    after = numbers(case["memory_after"]), numbers(case["marks_after"])
-    return " ".join(["loads", format, window(case), numbers(case["text"]), answer, *after])
+    return answer, numbers(case["memory_after"]), numbers(case["marks_after"])
+
+
+def load_case(format, case):
+    return " ".join(["loads", format, window(case), numbers(case["text"]), *loaded(case)])
+
+
+def parts_case(_, case):
+    return " ".join(["arrives", window(case), numbers(map(numbers, case["parts"])), *loaded(case)])
 
 
 def write_case(format, case):
@@ -194,7 +210,7 @@ def write_case(format, case):
 
 def statement(name, case):
     side = name.rpartition("-")[0]
-    made = load_case if side.startswith("load") else write_case
+    made = parts_case if side == "load-parts" else load_case if side.startswith("load") else write_case
     return STATEMENT.format(name=name, case=made(SIDES[side], case))
 
 
@@ -206,12 +222,24 @@ def unfoldable():
                 yield f"Rattle.{crate}.specs.{file.stem}.{name}"
 
 
+def below(crates, listed):
+    """These crates and all that they are listed to need."""
+    found, left = set(), list(crates)
+    while left:
+        crate = left.pop()
+        if crate not in found:
+            found.add(crate)
+            left += listed[crate].split()
+    return found
+
+
 def write_crates(folder, cases):
-    """A repository of the crates with the definitions, and of the crate `sense` with the statements."""
-    listed = (ROOT / "crates.txt").read_text().splitlines()
-    own = [line for line in listed if line.partition(":")[0].strip() in CRATES]
-    (folder / "crates.txt").write_text("\n".join([*own, f"sense: {' '.join(CRATES)}", ""]))
-    for crate in CRATES:
+    """A repository of the crates with the definitions, those below them, and the crate `sense` with the statements."""
+    listed = dict(line.partition(":")[::2] for line in (ROOT / "crates.txt").read_text().splitlines() if ":" in line)
+    own = below(CRATES, listed)
+    lines = [f"{crate}:{listed[crate]}" for crate in listed if crate in own]
+    (folder / "crates.txt").write_text("\n".join([*lines, f"sense: {' '.join(CRATES)}", ""]))
+    for crate in own:
         shutil.copytree(ROOT / "crates" / crate, folder / "crates" / crate)
     # with these a crate that is proved already is not proved again
     for known in ("rlib", "stamp"):
@@ -241,7 +269,7 @@ def refused(cases):
         return []
     said = ran.stdout + ran.stderr
     errors = re.findall(r"error: (.*)", said)
-    names = [error.split("`")[1] for error in errors if re.match(r"`(load|write)(-tape)?(-sum)?-\d+`:", error)]
+    names = [error.split("`")[1] for error in errors if re.match(r"`(load|write)(-tape|-parts)?(-sum)?-\d+`:", error)]
     # any other error can hide statements that were not computed
     if not names or len(names) != len(errors):
         raise Stopped(f"the checker did not come to compute the cases\n{said}")
@@ -251,6 +279,8 @@ def refused(cases):
 def shown(name, value):
     if not isinstance(value, list):
         return value
+    if name == "parts":
+        return [bytes(part) for part in value]
     return bytes(value) if name.startswith("text") else bytes(value).hex(" ")
 
 

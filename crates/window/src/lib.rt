@@ -8,7 +8,7 @@ ghost use Rattle.window.specs.Plans.{refusalWith, refusal};
 const TOP: usize = 1 << 32;
 
 // Why and where something is refused. The reason is the row's number in docs/FORMAT.md, 0 for none.
-// A load's ordinal is the number of a record, from 1; 0 for row 1, and for row 14 how many records were read. Its
+// A load's ordinal is the number of a record, from 1; 0 for row 1, and for rows 14 and 20 how many records were read. Its
 // place is an index into the text. A write's ordinal is 0, and its place the index of a mark (row 16, and row 11 of a tape), the
 // length needed (row 17), or 0. For row 7 of S-records `want` is the checksum that would have been right, which may be 0; for every other
 // reason, and for none, it is 0.

@@ -1,11 +1,13 @@
 //! A second reading of the S-record rules, to compare other programs with.
 //!
 //! `reading` is the loader and the writer in their plainest form, and `tape`
-//! those of MOS Technology tapes. `cases` draws texts, windows and images that
-//! reach every row of the refusal table, from the numbers of `random`. `script`
-//! has cases and answers in the form of the program `vectors`.
+//! those of MOS Technology tapes. `parts` is a load of S-records in parts, a
+//! program of its own. `cases` draws texts, windows and images that reach every
+//! row of the refusal table, from the numbers of `random`. `script` has cases
+//! and answers in the form of the program `vectors`.
 
 pub mod cases;
+pub mod parts;
 pub mod random;
 pub mod reading;
 pub mod script;

@@ -1,12 +1,14 @@
 //! Prints small cases with their results, one line of JSON for each.
 
+use second::cases::cuts::parts_case;
 use second::cases::tapes::{SUM_TAPES, TAPES};
-use second::cases::{Drawing, RECORDS};
+use second::cases::{Drawing, RECORDS, SMALL};
+use second::reading::Loaded;
 use std::io::{self, BufWriter, Write};
 use std::process::ExitCode;
 
-const USAGE: &str =
-    "usage: cases load|write|load-tape|write-tape|load-tape-sum|write-tape-sum SEED COUNT";
+const USAGE: &str = "usage: cases \
+    load|write|load-tape|write-tape|load-tape-sum|write-tape-sum|load-parts SEED COUNT";
 
 fn main() -> ExitCode {
     let arguments: Vec<String> = std::env::args().skip(1).collect();
@@ -37,6 +39,7 @@ fn parse(arguments: &[String]) -> Option<(Line, u64, u64)> {
         "write-tape" => |seed, index| write_line(&TAPES, seed, index),
         "load-tape-sum" => |seed, index| load_line(&SUM_TAPES, seed, index),
         "write-tape-sum" => |seed, index| write_line(&SUM_TAPES, seed, index),
+        "load-parts" => parts_line,
         _ => return None,
     };
     Some((line, seed.parse().ok()?, count.parse().ok()?))
@@ -55,11 +58,32 @@ fn load_line(drawing: &Drawing, seed: u64, index: u64) -> String {
     let mut memory = case.memory.clone();
     let mut marks = case.marks.clone();
     let loaded = (drawing.load)(&case.text, case.base, &mut memory, &mut marks);
-    object(&[
+    let arguments = vec![
         ("text", array(&case.text)),
         ("base", case.base.to_string()),
         ("memory", array(&case.memory)),
         ("marks", array(&case.marks)),
+    ];
+    object(&[arguments, answer(&loaded, &memory, &marks)].concat())
+}
+
+/// A load that is begun, fed the parts and ended.
+fn parts_line(seed: u64, index: u64) -> String {
+    let case = parts_case(seed, index, SMALL);
+    let (loaded, memory, marks) = case.run();
+    let parts: Vec<String> = case.parts.iter().map(|part| array(part)).collect();
+    let arguments = vec![
+        ("base", case.base.to_string()),
+        ("memory", array(&case.memory)),
+        ("marks", array(&case.marks)),
+        ("parts", format!("[{}]", parts.join(","))),
+    ];
+    object(&[arguments, answer(&loaded, &memory, &marks)].concat())
+}
+
+/// The answer of a load, and memory and marks after it.
+fn answer(loaded: &Loaded, memory: &[u8], marks: &[u8]) -> Vec<(&'static str, String)> {
+    vec![
         ("number", loaded.refusal.number.to_string()),
         ("record", loaded.refusal.record.to_string()),
         ("place", loaded.refusal.place.to_string()),
@@ -68,9 +92,9 @@ fn load_line(drawing: &Drawing, seed: u64, index: u64) -> String {
         ("entry", entry(loaded.entry)),
         ("records", loaded.records.to_string()),
         ("cells", loaded.cells.to_string()),
-        ("memory_after", array(&memory)),
-        ("marks_after", array(&marks)),
-    ])
+        ("memory_after", array(memory)),
+        ("marks_after", array(marks)),
+    ]
 }
 
 fn write_line(drawing: &Drawing, seed: u64, index: u64) -> String {

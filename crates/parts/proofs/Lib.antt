@@ -1,0 +1,4 @@
+pub mod SoundLaws
+pub mod PartWalkLaws
+pub mod KeptLaws
+pub mod Agreement

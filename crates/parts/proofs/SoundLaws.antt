@@ -1,0 +1,235 @@
+-- A load in parts that is under way keeps its buffers' lengths and small numbers, so that a call on it is the fold over its characters.
+use mathlib.Core.Path.{_≡_, refl, sym, ap, _∙_, subst}
+use Prim.Native.Nat.{ℕ, suc, _+_, _-_, _^_, _≤_, _<_}
+use native.Mathlib.Nat.{zero-add, suc-add}
+use native.Mathlib.Omega.{arith}
+use mathlib.Core.Bool.{false}
+use mathlib.Core.List.{List, [], _∷_, _++_}
+use mathlib.Core.Logic.{⊎-elim}
+use mathlib.Core.Option.{Option, none, some}
+use lib.Dec.{eqb, lit<}
+use lib.ListN.{length, take, replicate, length-append, length-replicate, length-take}
+use borrow.Author.Tests.{eq-eqb, le-leb, le-ltb, eqb-true, eqb-false}
+use Rattle.lists.specs.Lists.{over}
+use Rattle.lists.proofs.TestLaws.{by-test}
+use Rattle.lists.proofs.OverLaws.{over-length, over-none}
+use Rattle.window.specs.declared.Refusal.{Refusal}
+use Rattle.window.specs.declared.Entry.{Entry}
+use Rattle.window.specs.Windows.{windowOf}
+use Rattle.window.specs.Plans.{row12}
+use Rattle.window.specs.Marks.{claimRow, claimed}
+use Rattle.window.proofs.FillLaws.{inside}
+use Rattle.window.proofs.RowLaws.{allowed-is}
+use Rattle.text.specs.Scan.{State, Step}
+use Rattle.text.specs.Scan.Step.{refuse, skip, title, put, finish}
+use Rattle.text.proofs.FormatLaws.{IsRefusal, StepOk}
+use Rattle.srec.specs.Lines.{isEnd}
+use Rattle.srec.specs.Formats.{srec}
+use Rattle.srec.proofs.LimitLaws.{limits}
+use Rattle.srec.proofs.SrecFormatLaws.{lawful}
+use Rattle.srec_step.proofs.JudgeLaws.{counting}
+use Rattle.parts.specs.Parts.{Known, Going, Status, Stage, stage, Turn, stored, stepTurn, recordTurn, lineTurn, afterTurn, closed, kept, counted, received, fed, most, possible, row1Later, row20, feed}
+use Rattle.parts.specs.Parts.Status.{going, halted}
+use Rattle.parts.specs.Parts.Turn.{halt, next}
+
+-- ---- one record
+
+-- a refusal has a reason, and data bytes are no more than the characters
+abbrev StepGrows : List ℕ → Step → Type 0
+StepGrows chars (refuse f) = 0 < f .reason
+StepGrows chars skip = Unit {0}
+StepGrows chars (title h) = Unit {0}
+StepGrows chars (put a ds) = length ds ≤ length chars
+StepGrows chars (finish e) = Unit {0}
+
+-- so it is for every record
+step-grows : (s : State) (chars : List ℕ) → StepGrows chars (srec .step s chars)
+step-grows s chars = go (srec .step s chars) refl
+  where
+    go : (x : Step) → srec .step s chars ≡ x → StepGrows chars x
+    go (refuse f) e = subst (StepOk limits s) e (lawful .bounded s chars) .0
+    go skip e = tt
+    go (title h) e = tt
+    go (put a ds) e =
+        ⊎-elim {C = length ds ≤ length chars} (λ r. absurd (subst IsRefusal e r)) (λ q. counting .roomy chars a ds (sym q ∙ e)) (lawful .says s chars)
+    go (finish e) q = tt
+
+-- ---- the buffers
+
+-- a claim that is granted lies in the window, or has no cell
+granted-inside : (base : ℕ) (marks : List ℕ) (a n : ℕ) → claimRow base marks a n ≡ 0 → row12 base (length marks) a n ≡ false
+unfolding claimRow
+granted-inside base marks a n e =
+    by-test (row12 base (length marks) a n) (λ t. absurd (let z : _≡_ {A = ℕ} 12 0 = rw t at e in omega arith)) (λ t. t)
+
+-- what lies in the window leaves a buffer its length
+over-window : (base a : ℕ) (l xs : List ℕ) → row12 base (length l) a (length xs) ≡ false → length (over l (a - base) xs) ≡ length l
+over-window base a l [] h = ap length (over-none l (a - base))
+over-window base a l (x ∷ xs) h =
+    let k : (base ≤ a) × (a + suc (length xs) ≤ base + length l) = inside base (length l) a (length xs) h in
+    over-length l (a - base) (x ∷ xs) (omega (arith, k .0, k .1))
+
+-- ---- a turn
+
+-- buffers keep their lengths, and the numbers grow by one record, with at most n cells
+record Kept (n : ℕ) (k k′ : Known) (memory memory′ marks marks′ : List ℕ) : Type 0 where
+  memory-long : length memory′ ≡ length memory
+  marks-long : length marks′ ≡ length marks
+  number : k′ .state .number ≤ suc (k .state .number)
+  records : k′ .state .records ≤ suc (k .state .records)
+  cells : k′ .state .cells ≤ k .state .cells + n
+
+-- a refusal has a reason
+abbrev TurnKeeps : ℕ → Known → List ℕ → List ℕ → Turn → Type 0
+TurnKeeps n k memory marks (halt f) = 0 < f .reason
+TurnKeeps n k memory marks (next k′ memory′ marks′) = Kept n k k′ memory memory′ marks marks′
+
+module _ (k : Known) (memory marks : List ℕ) (same : length memory ≡ length marks) (base place : ℕ) where
+  -- a record that has room, or is refused
+  stored-keeps : (n : ℕ) (u : State) (a : ℕ) (ds : List ℕ) → u .number ≤ suc (k .state .number) → u .records ≤ suc (k .state .records)
+      → u .cells ≤ k .state .cells + n → (m : ℕ) → TurnKeeps n k memory marks (stored base m place memory marks u a ds)
+  unfolding stored claimed
+  stored-keeps n u a ds x y z m =
+      by-test (eqb (claimRow base marks a (length ds)) 0)
+      (λ t. rw t (let w : row12 base (length marks) a (length ds) ≡ false = granted-inside base marks a (length ds) (eqb-true _ 0 t) in record {
+        memory-long = over-window base a memory ds (ap (λ (j : ℕ). row12 base j a (length ds)) same ∙ w);
+        marks-long = over-window base a marks (replicate (length ds) 1) (rw length-replicate w);
+        number = x;
+        records = y;
+        cells = z;
+      }))
+      (λ t. rw t (let z = eqb-false (claimRow base marks a (length ds)) 0 t in omega (arith, z)))
+
+  -- what a step comes to
+  step-keeps : (n : ℕ) (x : Step) → ((a : ℕ) (ds : List ℕ) → x ≡ put a ds → length ds ≤ n) → ((f : _) → x ≡ refuse f → 0 < f .reason)
+      → TurnKeeps n k memory marks (stepTurn base place memory marks (k .state) x)
+  step-keeps n (refuse f) h r = r f refl
+  step-keeps n skip h r = record { memory-long = refl; marks-long = refl; number = omega arith; records = omega arith; cells = omega arith }
+  step-keeps n (title t) h r = record { memory-long = refl; marks-long = refl; number = omega arith; records = omega arith; cells = omega arith }
+  step-keeps n (put a ds) h r = stored-keeps n _ a ds (omega arith) (omega arith) (omega (arith, h a ds refl)) (suc (k .state .number))
+  step-keeps n (finish e) h r = record { memory-long = refl; marks-long = refl; number = omega arith; records = omega arith; cells = omega arith }
+
+  -- what a line comes to
+  line-keeps : (chars : List ℕ) → TurnKeeps (length chars) k memory marks (lineTurn base place chars memory marks k)
+  line-keeps [] = record { memory-long = refl; marks-long = refl; number = omega arith; records = omega arith; cells = omega arith }
+  line-keeps (c ∷ cs) = go (k .entry)
+    where
+      go : (e : Option Entry) → TurnKeeps (length (c ∷ cs)) k memory marks (recordTurn base place (c ∷ cs) memory marks (k .state) e)
+      go (some e) = lit< tt
+      go none =
+          let g = step-grows (k .state) (c ∷ cs) in
+          step-keeps (length (c ∷ cs)) (srec .step (k .state) (c ∷ cs)) (λ a ds q. subst (StepGrows (c ∷ cs)) q g)
+          (λ f q. subst (StepGrows (c ∷ cs)) q g)
+
+-- ---- stages
+
+-- a load under way in a window from a base on, with room for so many characters more
+pub record Sound (base : ℕ) (g : Going) (memory marks : List ℕ) (room : ℕ) : Type 0 where
+  pub memory-long : length memory ≡ g .size
+  pub marks-long : length marks ≡ g .size
+  pub reach : base + g .size ≤ 2 ^ 32
+  pub few : g .total + room ≤ most
+  pub begins : g .place + length (g .held) ≤ g .total
+  pub number : g .known .state .number ≤ g .place
+  pub records : g .known .state .records ≤ g .place
+  pub cells : g .known .state .cells ≤ g .place
+
+abbrev pub SoundIn : ℕ → ℕ → Status → List ℕ → List ℕ → Type 0
+SoundIn base room (going g) memory marks = Sound base g memory marks room
+SoundIn base room (halted f) memory marks = Unit {0}
+
+abbrev pub SoundAt : ℕ → ℕ → Stage → Type 0
+SoundAt base room w = SoundIn base room (w .status) (w .memory) (w .marks)
+
+module _ (base room : ℕ) (g : Going) (memory marks : List ℕ) (s : Sound base g memory marks (suc room)) where
+  -- behind a line end
+  turn-sound : (t : Turn) → TurnKeeps (length (g .held)) (g .known) memory marks t → SoundAt base room (afterTurn (counted g) memory marks t)
+  turn-sound (halt f) h = tt
+  turn-sound (next k m′ k′) h =
+      record {
+        memory-long = h .memory-long ∙ s .memory-long;
+        marks-long = h .marks-long ∙ s .marks-long;
+        reach = s .reach;
+        few = omega (arith, s .few);
+        begins = omega arith;
+        number = omega (arith, h .number, s .number, s .begins);
+        records = omega (arith, h .records, s .records, s .begins);
+        cells = omega (arith, h .cells, s .cells, s .begins);
+      }
+
+  -- a line end
+  closed-sound : SoundAt base room (closed base (counted g) memory marks)
+  closed-sound =
+      turn-sound (lineTurn base (g .place) (g .held) memory marks (g .known))
+      (line-keeps (g .known) memory marks (s .memory-long ∙ sym (s .marks-long)) base (g .place) (g .held))
+
+  -- another character
+  kept-sound : (c : ℕ) → Sound base (kept g c) memory marks room
+  kept-sound c =
+      let l : length (take 515 (g .held ++ (c ∷ []))) ≤ suc (length (g .held)) = rw (length-take, length-append) (omega arith) in
+      record {
+        memory-long = s .memory-long;
+        marks-long = s .marks-long;
+        reach = s .reach;
+        few = omega (arith, s .few);
+        begins = omega (arith, s .begins, l);
+        number = s .number;
+        records = s .records;
+        cells = s .cells;
+      }
+
+-- a character leaves a sound stage sound
+received-sound : (base room : ℕ) (x : Status) (memory marks : List ℕ) (c : ℕ) → SoundIn base (suc room) x memory marks
+    → SoundAt base room (received base x memory marks c)
+received-sound base room (halted f) memory marks c s = tt
+received-sound base room (going g) memory marks c s =
+    by-test (isEnd c) (λ e. rw e (closed-sound base room g memory marks s)) (λ e. rw e (kept-sound base room g memory marks s c))
+
+-- and so do many
+pub fed-sound : (base : ℕ) (xs : List ℕ) (room : ℕ) (w : Stage) → SoundAt base (length xs + room) w → SoundAt base room (fed base w xs)
+fed-sound base [] room w s = rw (zero-add room) at s
+fed-sound base (x ∷ xs) room w s =
+    fed-sound base xs room (received base (w .status) (w .memory) (w .marks) x)
+    (received-sound base (length xs + room) (w .status) (w .memory) (w .marks) x (rw (suc-add (length xs) room) at s))
+
+-- neither row 1 nor row 20 in a call on a sound stage
+pub sound-allowed : (base room : ℕ) (g : Going) (memory marks : List ℕ) → Sound base g memory marks room
+    → row1Later (windowOf base memory marks) g ≡ false
+unfolding row1Later possible
+sound-allowed base room g memory marks s =
+    rw (
+      allowed-is (windowOf base memory marks) (s .marks-long ∙ sym (s .memory-long)) (omega (arith, s .memory-long, s .reach)),
+      eq-eqb (length memory) (g .size) (s .memory-long),
+      le-leb (g .total) most (omega (arith, s .few)),
+      le-leb (g .place + length (g .held)) (g .total) (s .begins),
+      le-leb (g .known .state .number) (g .place) (s .number),
+      le-leb (g .known .state .records) (g .place) (s .records),
+      le-leb (g .known .state .cells) (g .place) (s .cells),
+    )
+
+not-past : (base room : ℕ) (g : Going) (memory marks part : List ℕ) → Sound base g memory marks room → length part ≤ room → row20 g part ≡ false
+unfolding row20
+not-past base room g memory marks part s h = le-ltb most (g .total + length part) (omega (arith, s .few))
+
+-- ---- parts
+
+-- characters change nothing after a refusal
+pub fed-halted : (base : ℕ) (xs : List ℕ) (f : Refusal) (memory marks : List ℕ)
+    → fed base (stage (halted f) memory marks) xs ≡ stage (halted f) memory marks
+fed-halted base [] f memory marks = refl
+fed-halted base (x ∷ xs) f memory marks = fed-halted base xs f memory marks
+
+-- "however cut": two parts are their characters one after the other
+pub fed-append : (base : ℕ) (xs ys : List ℕ) (w : Stage) → fed base w (xs ++ ys) ≡ fed base (fed base w xs) ys
+fed-append base [] ys w = refl
+fed-append base (x ∷ xs) ys w = fed-append base xs ys (received base (w .status) (w .memory) (w .marks) x)
+
+-- a call on a sound stage with room for the part is the fold over its characters
+pub feed-is-fed : (base : ℕ) (part : List ℕ) (room : ℕ) (w : Stage) → SoundAt base (length part + room) w → feed base w part ≡ fed base w part
+feed-is-fed base part room w s = go (w .status) (w .memory) (w .marks) s
+  where
+    go : (x : Status) (memory marks : List ℕ) → SoundIn base (length part + room) x memory marks
+        → feed base (stage x memory marks) part ≡ fed base (stage x memory marks) part
+    go (halted f) memory marks s = sym (fed-halted base part f memory marks)
+    go (going g) memory marks s =
+        rw (sound-allowed base (length part + room) g memory marks s, not-past base (length part + room) g memory marks part s (omega arith))
