@@ -25,7 +25,7 @@ pub fn count_gaps(format: Format, text: &[u8]) -> usize
 }
 
 // How many characters a text begins with before a separator.
-fn count_chars(format: Format, text: &[u8]) -> usize
+pub fn count_chars(format: Format, text: &[u8]) -> usize
     ensures { λ r. ⌜ (r ≡ length (front (formatOf format .gap) (now (text .entry)))) × (r ≤ length (now (text .entry))) ⌝ }
 {
     let mut i: usize = 0;

@@ -18,7 +18,7 @@ ghost use Rattle.tape.specs.Formats.{tape};
 ghost use Rattle.formats.specs.Choices.{formatOf};
 
 // The answer of a load that is refused.
-fn refused_answer(refusal: Refusal) -> Loaded
+pub fn refused_answer(refusal: Refusal) -> Loaded
     ensures { λ r. ⌜ r ≡ loadAnswer (refused refusal) ⌝ }
 {
     Loaded {
@@ -34,7 +34,7 @@ fn refused_answer(refusal: Refusal) -> Loaded
 }
 
 // The answer of a load that is accepted.
-fn accepted_answer(header: Header, entry: Entry, records: usize, cells: usize) -> Loaded
+pub fn accepted_answer(header: Header, entry: Entry, records: usize, cells: usize) -> Loaded
     ensures { λ r. ⌜ r ≡ record { refusal = refusal 0 0 0; header = header; entry = entry; records = records; cells = cells } ⌝ }
 {
     Loaded {

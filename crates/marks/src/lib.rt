@@ -153,7 +153,7 @@ pub fn next_marked(form: Form, marks: &[u8], cells: usize, at: usize) -> usize
 }
 
 // The smaller of two numbers.
-fn smaller(a: usize, b: usize) -> usize
+pub fn smaller(a: usize, b: usize) -> usize
     ensures { λ r. ⌜ r ≡ min a b ⌝ }
 {
     if a < b { a } else { b }

@@ -1,4 +1,5 @@
 pub mod SoundLaws
 pub mod PartWalkLaws
+pub mod StretchLaws
 pub mod KeptLaws
 pub mod Agreement

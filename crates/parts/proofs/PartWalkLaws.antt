@@ -50,11 +50,11 @@ read-first cs =
     too-long (take 515 cs) (rw (length-take-le 515 cs (omega arith)) (omega arith)) ∙ sym (too-long cs (omega arith)))
 
 -- and so they do what it does
-step-first : (s : State) (cs : List ℕ) → srec .step s (take 515 cs) ≡ srec .step s cs
+pub step-first : (s : State) (cs : List ℕ) → srec .step s (take 515 cs) ≡ srec .step s cs
 step-first s cs = ap (judged s) (read-first cs)
 
 -- what is held, and more: of all of it the first 515 characters are held
-held-more : (cs xs : List ℕ) → take 515 (take 515 cs ++ xs) ≡ take 515 (cs ++ xs)
+pub held-more : (cs xs : List ℕ) → take 515 (take 515 cs ++ xs) ≡ take 515 (cs ++ xs)
 held-more cs xs =
     by-test (leb (length cs) 515) (λ t. ap (λ (x : List ℕ). take 515 (x ++ xs)) (take-all 515 cs (leb-true (length cs) 515 t)))
     (λ t. let l : 515 < length cs = leb-false (length cs) 515 t in
@@ -87,11 +87,11 @@ abbrev behind-turn : Going → Known → Going
 behind-turn g k = record { size = g .size; total = g .total; known = k; place = g .total; held = [] }
 
 -- a character that is a line end, and one that is none
-received-end : (base : ℕ) (g : Going) (memory marks : List ℕ) (c : ℕ) → isEnd c ≡ true
+pub received-end : (base : ℕ) (g : Going) (memory marks : List ℕ) (c : ℕ) → isEnd c ≡ true
     → received base (going g) memory marks c ≡ closed base (counted g) memory marks
 received-end base g memory marks c e = rw e
 
-received-kept : (base : ℕ) (g : Going) (memory marks : List ℕ) (c : ℕ) → isEnd c ≡ false
+pub received-kept : (base : ℕ) (g : Going) (memory marks : List ℕ) (c : ℕ) → isEnd c ≡ false
     → received base (going g) memory marks c ≡ stage (going (kept g c)) memory marks
 received-kept base g memory marks c e = rw e
 

@@ -57,7 +57,7 @@ step-grows s chars = go (srec .step s chars) refl
 -- ---- the buffers
 
 -- a claim that is granted lies in the window, or has no cell
-granted-inside : (base : ℕ) (marks : List ℕ) (a n : ℕ) → claimRow base marks a n ≡ 0 → row12 base (length marks) a n ≡ false
+pub granted-inside : (base : ℕ) (marks : List ℕ) (a n : ℕ) → claimRow base marks a n ≡ 0 → row12 base (length marks) a n ≡ false
 unfolding claimRow
 granted-inside base marks a n e =
     by-test (row12 base (length marks) a n) (λ t. absurd (let z : _≡_ {A = ℕ} 12 0 = rw t at e in omega arith)) (λ t. t)
@@ -72,7 +72,7 @@ over-window base a l (x ∷ xs) h =
 -- ---- a turn
 
 -- buffers keep their lengths, and the numbers grow by one record, with at most n cells
-record Kept (n : ℕ) (k k′ : Known) (memory memory′ marks marks′ : List ℕ) : Type 0 where
+pub record Kept (n : ℕ) (k k′ : Known) (memory memory′ marks marks′ : List ℕ) : Type 0 where
   memory-long : length memory′ ≡ length memory
   marks-long : length marks′ ≡ length marks
   number : k′ .state .number ≤ suc (k .state .number)
@@ -80,7 +80,7 @@ record Kept (n : ℕ) (k k′ : Known) (memory memory′ marks marks′ : List �
   cells : k′ .state .cells ≤ k .state .cells + n
 
 -- a refusal has a reason
-abbrev TurnKeeps : ℕ → Known → List ℕ → List ℕ → Turn → Type 0
+abbrev pub TurnKeeps : ℕ → Known → List ℕ → List ℕ → Turn → Type 0
 TurnKeeps n k memory marks (halt f) = 0 < f .reason
 TurnKeeps n k memory marks (next k′ memory′ marks′) = Kept n k k′ memory memory′ marks marks′
 
@@ -110,7 +110,7 @@ module _ (k : Known) (memory marks : List ℕ) (same : length memory ≡ length 
   step-keeps n (finish e) h r = record { memory-long = refl; marks-long = refl; number = omega arith; records = omega arith; cells = omega arith }
 
   -- what a line comes to
-  line-keeps : (chars : List ℕ) → TurnKeeps (length chars) k memory marks (lineTurn base place chars memory marks k)
+  pub line-keeps : (chars : List ℕ) → TurnKeeps (length chars) k memory marks (lineTurn base place chars memory marks k)
   line-keeps [] = record { memory-long = refl; marks-long = refl; number = omega arith; records = omega arith; cells = omega arith }
   line-keeps (c ∷ cs) = go (k .entry)
     where

@@ -30,7 +30,7 @@ ghost use Rattle.storing.specs.Stores.{storedBy, Placeable, Accepts};
 const LINE_DATA: usize = 7;
 
 // Stores the data bytes of a line that was read, whose digits begin at `start`, into the part that is lent for them.
-fn store_data(table: &[u32; 256], part: &mut [u8], chars: &[u8], start: usize)
+pub fn store_data(table: &[u32; 256], part: &mut [u8], chars: &[u8], start: usize)
     requires { ⌜ (now table ≡ digitTable) × (start + 2 * length (now part) ≤ length (now chars)) ⌝ }
     requires { ⌜ length (take (2 * length (now part)) (drop start (now chars))) ≤ firstBad (take (2 * length (now part)) (drop start (now chars))) ⌝ }
     ensures { λ _. ⌜ now (part .exit) ≡ bytes (take (2 * length (now (part .entry))) (drop start (now (chars .entry)))) ⌝ }
@@ -57,7 +57,7 @@ fn place_data(
 }
 
 // Stores the data of a record that was checked into the middle of memory, at its address less the base.
-fn place_record(table: &[u32; 256], base: usize, memory: &mut [u8], chars: &[u8])
+pub fn place_record(table: &[u32; 256], base: usize, memory: &mut [u8], chars: &[u8])
     requires { ⌜ (now table ≡ digitTable) × Placeable base (length (now memory)) (carried (read (now chars))) ⌝ }
     ensures { λ _. ⌜ now (memory .exit) ≡ storedBy base (now (memory .entry)) (carried (read (now (chars .entry)))) ⌝ }
 {

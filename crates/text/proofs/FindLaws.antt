@@ -35,7 +35,7 @@ module _ (gap : ℕ → Bool) where
       (λ e. rw (e, behind-front (suc at) cs, suc-add at (length (front gap cs)), ← (add-suc at (length (front gap cs)))))
 
   -- that stretch is the first characters of the text
-  front-take : (t : List ℕ) → front gap t ≡ take (length (front gap t)) t
+  pub front-take : (t : List ℕ) → front gap t ≡ take (length (front gap t)) t
   front-take [] = refl
   front-take (c ∷ cs) = by-test (gap c) (λ e. rw e) (λ e. rw e (ap {B = List ℕ} (λ (r : List ℕ). c ∷ r) (front-take cs)))
 
@@ -115,7 +115,7 @@ module _ (gap : ℕ → Bool) where
   gap-stops t i l e = rw (drop-cons t i 0 l, e)
 
   -- n characters without a separator, up to a place where a line may end, are the stretch that a text begins with
-  front-long : (n : ℕ) (t : List ℕ) → n ≤ length t → Free gap (take n t) → length (front gap (drop n t)) ≡ 0 → length (front gap t) ≡ n
+  pub front-long : (n : ℕ) (t : List ℕ) → n ≤ length t → Free gap (take n t) → length (front gap (drop n t)) ≡ 0 → length (front gap t) ≡ n
   front-long zero t l k h = h
   front-long (suc n) [] l k h = absurd (omega arith)
   front-long (suc n) (c ∷ cs) l k h = rw (k .0) (ap suc (front-long n cs (omega arith) (k .1) h))
