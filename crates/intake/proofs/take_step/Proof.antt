@@ -59,8 +59,11 @@ returns-5 c =
     let at-claim = c .before .before .before .before in
     let at-step = at-claim .before .before .before in
     let e = at-step .before .before in
-    rw (c .refuse2 .ensures) (took-denied (call (e .before)) (e .if1 .left) _ _ _ (at-step .step4 .given .1) _ (at-claim .claim .ensures .0)
-    (c .before .if2 .taken), refl)
+    rw (c .refuse2 .ensures) (
+      took-denied (call (e .before)) (e .if1 .left) _ _ _ (at-step .step4 .given .1) _ (at-claim .claim .ensures .0)
+          (c .before .if2 .taken),
+      refl,
+    )
 
 place-record-requires : tie.Need-place-record-requires
 place-record-requires c κs =

@@ -1,0 +1,259 @@
+// A load in parts: fed parts of a text as they arrive, and ended.
+use formats::Format;
+use intake::Tally;
+use intake::Turn;
+use session::Session;
+use text::Taken;
+use window::Loaded;
+use window::Refusal;
+ghost use mathlib.Core.Path.{_≡_};
+ghost use mathlib.Core.List.{[], _++_};
+ghost use Prim.Native.Nat.{_+_, _^_, _≤_, _<_};
+ghost use lib.ListN.{length, take, drop};
+ghost use Rattle.hex.specs.Tables.{digitTable};
+ghost use Rattle.window.specs.Windows.{windowOf};
+ghost use Rattle.parts.specs.Parts.{stage, lineTurn, fed, feedIn, endIn, answered};
+ghost use Rattle.parts.specs.Parts.Status.{going};
+ghost use Rattle.parts.specs.Stretches.{fresh};
+ghost use Rattle.intake.specs.Tallies.{knownOf, Took, Roomy};
+ghost use Rattle.session.specs.Sessions.{goingOf, statusOf};
+
+// What the lines of a part come to whose ends stand in it: a refusal; or where the characters behind the last line end begin, and the
+// records so far.
+pub enum Rest {
+    Refused(Refusal),
+    From(usize, Tally),
+}
+
+// What ended a load: its answer, and the state behind it.
+pub struct Ended {
+    pub loaded: Loaded,
+    pub session: Session,
+}
+
+// The record that is not complete ends behind these characters. Where none are held it is read where it stands.
+fn close_line(
+    table: &[u32; 256],
+    line: &mut [u8],
+    held: usize,
+    chars: &[u8],
+    place: usize,
+    base: usize,
+    tally: Tally,
+    header: &mut [u8],
+    memory: &mut [u8],
+    marks: &mut [u8],
+) -> Turn
+    requires { ⌜ (now table ≡ digitTable) × (length (now line) ≡ 515) × (length (now memory) ≡ length (now marks)) × (length (now header) ≡ 252) × Roomy place (tally .state) (515 + length (now chars)) ⌝ }
+    ensures { λ r. ⌜ Took (lineTurn base place (take 515 (take held (now (line .entry)) ++ now (chars .entry))) (now (memory .entry)) (now (marks .entry)) (knownOf tally (now (header .entry)))) r (now (header .exit)) (now (memory .exit)) (now (marks .exit)) (now (memory .entry)) ⌝ }
+{
+    if held == 0 {
+        return intake::take_line(table, chars, place, base, tally, header, memory, marks);
+    }
+    let n = session::hold(line, held, chars);
+    intake::take_line(table, &line[..n], place, base, tally, header, memory, marks)
+}
+
+// Takes the lines of a part from a place on whose ends stand in it, each where it stands.
+fn take_lines(
+    table: &[u32; 256],
+    part: &[u8],
+    first: usize,
+    total: usize,
+    base: usize,
+    tally: Tally,
+    header: &mut [u8],
+    memory: &mut [u8],
+    marks: &mut [u8],
+) -> Rest {
+    let mut now = tally;
+    let mut at = first;
+    loop {
+        let state = now.state;
+        let taken = intake::take_next(table, state, part, at, total);
+        let Taken::Line { from, to, step } = taken else {
+            let from = at + lines::count_gaps(Format::Records, &part[at..]);
+            return Rest::From(from, now);
+        };
+        let turn = intake::take_step(
+            table,
+            step,
+            &part[from..to],
+            total + from,
+            base,
+            now,
+            header,
+            memory,
+            marks,
+        );
+        match turn {
+            Turn::Refused(refusal) => return Rest::Refused(refusal),
+            Turn::Next(next) => {
+                now = next;
+                at = to + 1;
+                continue;
+            }
+        }
+    }
+}
+
+// Takes a part in which a line ends, that neither row 1 nor row 20 refuses.
+fn take_part(
+    session: Session,
+    part: &[u8],
+    first: usize,
+    base: usize,
+    memory: &mut [u8],
+    marks: &mut [u8],
+) -> Session {
+    let table = hex::digit_table();
+    let total = session.total;
+    let tally = session.tally;
+    let mut header = session.header;
+    let mut line = session.line;
+    let turn = close_line(
+        &table,
+        &mut line,
+        session.held,
+        &part[..first],
+        session.place,
+        base,
+        tally,
+        &mut header,
+        memory,
+        marks,
+    );
+    match turn {
+        Turn::Refused(refusal) => return session::halt(session, refusal, marks),
+        Turn::Next(next) => {
+            let rest = take_lines(
+                &table,
+                part,
+                first + 1,
+                total,
+                base,
+                next,
+                &mut header,
+                memory,
+                marks,
+            );
+            return settle(session, header, rest, part, marks);
+        }
+    }
+}
+
+// The state behind the lines of a part whose ends stand in it: the characters behind them are held.
+fn settle(
+    session: Session,
+    header: [u8; 252],
+    rest: Rest,
+    part: &[u8],
+    marks: &mut [u8],
+) -> Session {
+    match rest {
+        Rest::Refused(refusal) => return session::halt(session, refusal, marks),
+        Rest::From(from, tally) => {
+            let mut s = session;
+            s.place = session.total + from;
+            s.total = session.total + from;
+            s.tally = tally;
+            s.header = header;
+            s.held = 0;
+            return session::keep(s, &part[from..]);
+        }
+    }
+}
+
+// Takes one more part of the text, of any length.
+pub fn feed(
+    session: Session,
+    part: &[u8],
+    base: u32,
+    memory: &mut [u8],
+    marks: &mut [u8],
+) -> Session
+    ensures status { λ r. ⌜ statusOf r ≡ feedIn (statusOf session) (windowOf base (now (memory .entry)) (now (marks .entry))) (now (part .entry)) .status ⌝ }
+    ensures memory { λ _. ⌜ now (memory .exit) ≡ feedIn (statusOf session) (windowOf base (now (memory .entry)) (now (marks .entry))) (now (part .entry)) .memory ⌝ }
+    ensures marks { λ _. ⌜ now (marks .exit) ≡ feedIn (statusOf session) (windowOf base (now (memory .entry)) (now (marks .entry))) (now (part .entry)) .marks ⌝ }
+{
+    let refusal = session.refusal;
+    if refusal.reason != 0 {
+        return session;
+    }
+    if session::is_barred(session, base, memory, marks) {
+        return session::halt(session, window::refuse(1, 0, 0), marks);
+    }
+    let total = session.total;
+    if part.len() > session::MOST - total {
+        let tally = session.tally;
+        let state = tally.state;
+        return session::halt(session, window::refuse(20, state.number, total), marks);
+    }
+    // where no line ends in the part, no digit is read
+    let first = lines::count_chars(Format::Records, part);
+    if first == part.len() {
+        return session::keep(session, part);
+    }
+    take_part(session, part, first, base as usize, memory, marks)
+}
+
+// The state behind the end: the record that is not complete is read, and row 14 is tried.
+fn finish(session: Session, base: u32, memory: &mut [u8], marks: &mut [u8]) -> Session
+    ensures status { λ r. ⌜ statusOf r ≡ endIn (statusOf session) (windowOf base (now (memory .entry)) (now (marks .entry))) .status ⌝ }
+    ensures memory { λ _. ⌜ now (memory .exit) ≡ endIn (statusOf session) (windowOf base (now (memory .entry)) (now (marks .entry))) .memory ⌝ }
+    ensures marks { λ _. ⌜ now (marks .exit) ≡ endIn (statusOf session) (windowOf base (now (memory .entry)) (now (marks .entry))) .marks ⌝ }
+{
+    let refusal = session.refusal;
+    if refusal.reason != 0 {
+        return session;
+    }
+    if session::is_barred(session, base, memory, marks) {
+        return session::halt(session, window::refuse(1, 0, 0), marks);
+    }
+    let table = hex::digit_table();
+    let total = session.total;
+    let tally = session.tally;
+    let mut header = session.header;
+    let line = session.line;
+    let n = marks::smaller(session.held, session::HELD);
+    let turn = intake::take_line(
+        &table,
+        &line[..n],
+        session.place,
+        base as usize,
+        tally,
+        &mut header,
+        memory,
+        marks,
+    );
+    match turn {
+        Turn::Refused(refusal) => return session::halt(session, refusal, marks),
+        Turn::Next(last) => {
+            if !last.ended {
+                let state = last.state;
+                return session::halt(session, window::refuse(14, state.number, total), marks);
+            }
+            let mut s = session;
+            s.place = total;
+            s.tally = last;
+            s.header = header;
+            s.held = 0;
+            return s;
+        }
+    }
+}
+
+// Ends a load in parts. A call behind it goes on from the state that is given back: a refused one stays refused.
+pub fn end(session: Session, base: u32, memory: &mut [u8], marks: &mut [u8]) -> Ended
+    ensures answer { λ r. ⌜ r .loaded ≡ answered (endIn (statusOf session) (windowOf base (now (memory .entry)) (now (marks .entry))) .status) ⌝ }
+    ensures status { λ r. ⌜ statusOf (r .session) ≡ endIn (statusOf session) (windowOf base (now (memory .entry)) (now (marks .entry))) .status ⌝ }
+    ensures memory { λ _. ⌜ now (memory .exit) ≡ endIn (statusOf session) (windowOf base (now (memory .entry)) (now (marks .entry))) .memory ⌝ }
+    ensures marks { λ _. ⌜ now (marks .exit) ≡ endIn (statusOf session) (windowOf base (now (memory .entry)) (now (marks .entry))) .marks ⌝ }
+{
+    let last = finish(session, base, memory, marks);
+    let loaded = session::answer(last);
+    Ended {
+        loaded,
+        session: last,
+    }
+}

@@ -1,0 +1,17 @@
+-- What a state shows of a load in parts. The bytes that it does not show are free.
+use mathlib.Core.Bool.{cond}
+use lib.Dec.{eqb}
+use lib.ListN.{take}
+use Rattle.parts.specs.Parts.{Going, Status}
+use Rattle.parts.specs.Parts.Status.{going, halted}
+use Rattle.intake.specs.Tallies.{knownOf}
+use Rattle.session.specs.declared.Session.{Session}
+
+-- the load that goes on
+abbrev pub goingOf : Session → Going
+goingOf s =
+    record { size = s .size; total = s .total; known = knownOf (s .tally) (s .header); place = s .place; held = take (s .held) (s .line) }
+
+-- a reason other than 0 is a refusal, and then nothing else is shown
+abbrev pub statusOf : Session → Status
+statusOf s = cond (eqb (s .refusal .reason) 0) (going (goingOf s)) (halted (s .refusal))

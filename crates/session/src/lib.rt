@@ -1,0 +1,179 @@
+// The state of a load in parts between two calls: how it begins, keeps characters, is refused, and answers.
+use intake::Tally;
+use window::Header;
+use window::Loaded;
+use window::Refusal;
+ghost use mathlib.Core.Path.{_≡_};
+ghost use mathlib.Core.List.{_++_};
+ghost use Prim.Native.Nat.{_+_, _^_, _≤_, _<_};
+ghost use lib.ListN.{length, take, replicate};
+ghost use Rattle.window.specs.Windows.{windowOf};
+ghost use Rattle.text.specs.Load.{headerOf};
+ghost use Rattle.parts.specs.Parts.{begun, possible, row1Later, answered};
+ghost use Rattle.parts.specs.Parts.Status.{halted};
+ghost use Rattle.parts.specs.Stretches.{keptAll};
+ghost use Rattle.session.specs.Sessions.{goingOf, statusOf};
+
+// The most characters that a load in parts takes.
+pub const MOST: usize = 4294967295;
+
+// So many characters of a record are held: row 3 refuses a longer one by them.
+pub const HELD: usize = 515;
+
+// The header has no more bytes.
+const MOST_HEADER: usize = 252;
+
+// The state that a call gives out and the next one takes. Of a refused load, whose refusal has a reason other than 0, nothing but the
+// refusal counts. Otherwise `size` is the number of cells at begin, `total` that of the characters so far; `line` has the first
+// `held` characters of the record that is not complete, which begins at `place`, and `header` the first `tally.head` bytes of the
+// header. What stands behind those, and an entry before a terminator, may be anything.
+pub struct Session {
+    pub refusal: Refusal,
+    pub size: usize,
+    pub total: usize,
+    pub place: usize,
+    pub tally: Tally,
+    pub header: [u8; 252],
+    pub held: usize,
+    pub line: [u8; 515],
+}
+
+// Adds characters to those of the record that is not complete, of which the first 515 are held, and answers how many are held now.
+pub fn hold(line: &mut [u8], held: usize, chars: &[u8]) -> usize
+    requires { ⌜ length (now line) ≡ 515 ⌝ }
+    ensures { λ r. ⌜ (take r (now (line .exit)) ≡ take 515 (take held (now (line .entry)) ++ now (chars .entry))) × (r ≤ 515) ⌝ }
+{
+    let from = marks::smaller(held, HELD);
+    let count = marks::smaller(chars.len(), HELD - from);
+    bytes::copy(&chars[..count], &mut line[from..]);
+    from + count
+}
+
+// The state with characters more, none of which ends a line.
+pub fn keep(session: Session, chars: &[u8]) -> Session
+    requires { ⌜ session .total + length (now chars) < 2 ^ 64 ⌝ }
+    ensures { λ r. ⌜ (r .refusal ≡ session .refusal) × (goingOf r ≡ keptAll (goingOf session) (now (chars .entry))) ⌝ }
+{
+    let mut s = session;
+    let mut line = s.line;
+    let held = hold(&mut line, s.held, chars);
+    s.total = s.total + chars.len();
+    s.held = held;
+    s.line = line;
+    s
+}
+
+// Numbers that a load in parts can have come to.
+fn is_possible(session: Session) -> bool
+    ensures { λ r. ⌜ r ≡ possible (goingOf session) ⌝ }
+{
+    let total = session.total;
+    let place = session.place;
+    let tally = session.tally;
+    let state = tally.state;
+    let held = marks::smaller(session.held, HELD);
+    if total > MOST {
+        return false;
+    }
+    if place > total {
+        return false;
+    }
+    if held > total - place {
+        return false;
+    }
+    if state.number > place {
+        return false;
+    }
+    if state.records > place {
+        return false;
+    }
+    state.cells <= place
+}
+
+// Row 1 in a later call: as at begin, or there are not as many cells as at begin, or no call gives out the numbers of this state.
+pub fn is_barred(session: Session, base: u32, memory: &[u8], marks: &[u8]) -> bool
+    ensures { λ r. ⌜ r ≡ row1Later (windowOf base (now (memory .entry)) (now (marks .entry))) (goingOf session) ⌝ }
+{
+    if !window::is_allowed(base, memory, marks) {
+        return true;
+    }
+    if memory.len() != session.size {
+        return true;
+    }
+    !is_possible(session)
+}
+
+// A state that is refused.
+fn stop(session: Session, refusal: Refusal) -> Session
+    ensures { λ r. ⌜ r .refusal ≡ refusal ⌝ }
+{
+    let mut s = session;
+    s.refusal = refusal;
+    s
+}
+
+// Refuses a load: all marks are cleared.
+pub fn halt(session: Session, refusal: Refusal, marks: &mut [u8]) -> Session
+    requires { ⌜ 0 < refusal .reason ⌝ }
+    ensures status { λ r. ⌜ statusOf r ≡ halted refusal ⌝ }
+    ensures marks { λ _. ⌜ now (marks .exit) ≡ replicate (length (now (marks .entry))) 0 ⌝ }
+{
+    marks::clear(marks);
+    stop(session, refusal)
+}
+
+// Begins a load in parts: row 1, and all marks are cleared, whatever they held.
+pub fn begin(base: u32, memory: &[u8], marks: &mut [u8]) -> Session
+    ensures status { λ r. ⌜ statusOf r ≡ begun (windowOf base (now (memory .entry)) (now (marks .entry))) .status ⌝ }
+    ensures marks { λ _. ⌜ now (marks .exit) ≡ begun (windowOf base (now (memory .entry)) (now (marks .entry))) .marks ⌝ }
+{
+    let state = text::start();
+    let tally = intake::going_on(state, 0);
+    let fresh = Session {
+        refusal: window::refuse(0, 0, 0),
+        size: memory.len(),
+        total: 0,
+        place: 0,
+        tally,
+        header: [0u8; 252],
+        held: 0,
+        line: [0u8; 515],
+    };
+    if !window::is_allowed(base, memory, marks) {
+        return halt(fresh, window::refuse(1, 0, 0), marks);
+    }
+    marks::clear(marks);
+    fresh
+}
+
+// The header of so many bytes, zero behind them.
+fn header_from(header: [u8; 252], len: usize) -> Header
+    ensures { λ r. ⌜ r ≡ headerOf (take len header) ⌝ }
+{
+    let n = marks::smaller(len, MOST_HEADER);
+    let mut clean = [0u8; 252];
+    bytes::copy(&header[..n], &mut clean);
+    Header {
+        len: n,
+        bytes: clean,
+    }
+}
+
+// What a load comes to that ends here: its refusal; row 14, where no terminator was read; or what its records said.
+pub fn answer(session: Session) -> Loaded
+    ensures { λ r. ⌜ r ≡ answered (statusOf session) ⌝ }
+{
+    let refusal = session.refusal;
+    if refusal.reason != 0 {
+        return load::refused_answer(refusal);
+    }
+    let tally = session.tally;
+    let state = tally.state;
+    if !tally.ended {
+        return load::refused_answer(window::refuse(14, state.number, session.total));
+    }
+    let bytes = session.header;
+    let header = header_from(bytes, tally.head);
+    let entry = tally.entry;
+    load::accepted_answer(header, entry, state.records, state.cells)
+}
