@@ -7,16 +7,20 @@ use text::Taken;
 use window::Loaded;
 use window::Refusal;
 ghost use mathlib.Core.Path.{_≡_};
+ghost use mathlib.Core.Bool.{false};
 ghost use mathlib.Core.List.{[], _++_};
-ghost use Prim.Native.Nat.{_+_, _^_, _≤_, _<_};
+ghost use Prim.Native.Nat.{_+_, _-_, _^_, _≤_, _<_};
 ghost use lib.ListN.{length, take, drop};
 ghost use Rattle.hex.specs.Tables.{digitTable};
 ghost use Rattle.window.specs.Windows.{windowOf};
-ghost use Rattle.parts.specs.Parts.{stage, lineTurn, fed, feedIn, endIn, answered};
+ghost use Rattle.text.specs.Lines.{front};
+ghost use Rattle.srec.specs.Lines.{isEnd};
+ghost use Rattle.parts.specs.Parts.{stage, lineTurn, fed, row1Later, row20, feedIn, endIn, answered};
 ghost use Rattle.parts.specs.Parts.Status.{going};
 ghost use Rattle.parts.specs.Stretches.{fresh};
 ghost use Rattle.intake.specs.Tallies.{knownOf, Took, Roomy};
 ghost use Rattle.session.specs.Sessions.{goingOf, statusOf};
+ghost use Rattle.feed.specs.Feeds.{Few, behind, RestIn};
 
 // What the lines of a part come to whose ends stand in it: a refusal; or where the characters behind the last line end begin, and the
 // records so far.
@@ -65,7 +69,10 @@ fn take_lines(
     header: &mut [u8],
     memory: &mut [u8],
     marks: &mut [u8],
-) -> Rest {
+) -> Rest
+    requires { ⌜ (now table ≡ digitTable) × (first ≤ length (now part)) × (length (now memory) ≡ length (now marks)) × (length (now header) ≡ 252) × Few (tally .state) (total + first) (length (now part) - first) ⌝ }
+    ensures { λ r. ⌜ (fed base (stage (going (fresh (length (now (memory .entry))) (total + first) (knownOf tally (now (header .entry))))) (now (memory .entry)) (now (marks .entry))) (drop first (now (part .entry))) ≡ behind (length (now (memory .entry))) total (now (header .exit)) (now (part .entry)) r (now (memory .exit)) (now (marks .exit))) × RestIn (length (now (part .entry))) r ⌝ }
+{
     let mut now = tally;
     let mut at = first;
     loop {
@@ -97,6 +104,26 @@ fn take_lines(
     }
 }
 
+// The state behind the lines of a part whose ends stand in it: the characters behind them are held.
+fn settle(session: Session, header: [u8; 252], rest: Rest, part: &[u8], marks: &mut [u8]) -> Session
+    requires { ⌜ (session .refusal .reason ≡ 0) × (session .total + length (now part) < 2 ^ 64) × RestIn (length (now part)) rest ⌝ }
+    ensures status { λ r. ⌜ statusOf r ≡ behind (session .size) (session .total) header (now (part .entry)) rest [] (now (marks .entry)) .status ⌝ }
+    ensures marks { λ _. ⌜ now (marks .exit) ≡ behind (session .size) (session .total) header (now (part .entry)) rest [] (now (marks .entry)) .marks ⌝ }
+{
+    match rest {
+        Rest::Refused(refusal) => return session::halt(session, refusal, marks),
+        Rest::From(from, tally) => {
+            let mut s = session;
+            s.place = session.total + from;
+            s.total = session.total + from;
+            s.tally = tally;
+            s.header = header;
+            s.held = 0;
+            return session::keep(s, &part[from..]);
+        }
+    }
+}
+
 // Takes a part in which a line ends, that neither row 1 nor row 20 refuses.
 fn take_part(
     session: Session,
@@ -105,7 +132,13 @@ fn take_part(
     base: usize,
     memory: &mut [u8],
     marks: &mut [u8],
-) -> Session {
+) -> Session
+    requires { ⌜ (session .refusal .reason ≡ 0) × (first ≡ length (front isEnd (now part))) × (first < length (now part)) ⌝ }
+    requires { ⌜ (row1Later (windowOf base (now memory) (now marks)) (goingOf session) ≡ false) × (row20 (goingOf session) (now part) ≡ false) ⌝ }
+    ensures status { λ r. ⌜ statusOf r ≡ fed base (stage (going (goingOf session)) (now (memory .entry)) (now (marks .entry))) (now (part .entry)) .status ⌝ }
+    ensures memory { λ _. ⌜ now (memory .exit) ≡ fed base (stage (going (goingOf session)) (now (memory .entry)) (now (marks .entry))) (now (part .entry)) .memory ⌝ }
+    ensures marks { λ _. ⌜ now (marks .exit) ≡ fed base (stage (going (goingOf session)) (now (memory .entry)) (now (marks .entry))) (now (part .entry)) .marks ⌝ }
+{
     let table = hex::digit_table();
     let total = session.total;
     let tally = session.tally;
@@ -138,28 +171,6 @@ fn take_part(
                 marks,
             );
             return settle(session, header, rest, part, marks);
-        }
-    }
-}
-
-// The state behind the lines of a part whose ends stand in it: the characters behind them are held.
-fn settle(
-    session: Session,
-    header: [u8; 252],
-    rest: Rest,
-    part: &[u8],
-    marks: &mut [u8],
-) -> Session {
-    match rest {
-        Rest::Refused(refusal) => return session::halt(session, refusal, marks),
-        Rest::From(from, tally) => {
-            let mut s = session;
-            s.place = session.total + from;
-            s.total = session.total + from;
-            s.tally = tally;
-            s.header = header;
-            s.held = 0;
-            return session::keep(s, &part[from..]);
         }
     }
 }

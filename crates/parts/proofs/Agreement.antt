@@ -8,7 +8,6 @@ use mathlib.Core.List.{List, [], _∷_}
 use mathlib.Core.Option.{none}
 use mathlib.Core.Logic.{⊎-elim, _⊎_, inl, inr}
 use lib.ListN.{length, replicate, length-append, length-replicate}
-use borrow.Author.Tests.{ltb-false}
 use Rattle.lists.proofs.TestLaws.{by-test}
 use Rattle.window.specs.declared.Refusal.{Refusal}
 use Rattle.window.specs.Windows.{Window, windowOf, row1}
@@ -30,7 +29,7 @@ use Rattle.parts.specs.Parts.{Going, Status, Stage, stage, fed, most, ro
 use Rattle.parts.specs.Parts.Status.{going, halted}
 use Rattle.parts.specs.Agreement.Cut.{at-record, at-end, at-begin}
 use Rattle.parts.specs.Agreement.{feeds, joined, Ending, seen, inParts, storedBefore, memoryKept, laid, Keeps, Agrees, However-cut, Short-agrees, Parts-at-once, Given-out-goes-on, Refusals-stay}
-use Rattle.parts.proofs.SoundLaws.{Sound, SoundIn, SoundAt, fed-sound, sound-allowed, feed-is-fed, fed-append}
+use Rattle.parts.proofs.SoundLaws.{Sound, SoundIn, SoundAt, fed-sound, sound-allowed, roomy, feed-is-fed, fed-append}
 use Rattle.parts.proofs.PartWalkLaws.{finishedAt, ending, walk}
 use Rattle.parts.proofs.KeptLaws.{scan-kept}
 
@@ -73,22 +72,6 @@ record By-20 (w : Stage) : Type 0 where
 record Arrived (base : ℕ) (ps : List (List ℕ)) (w : Stage) : Type 0 where
   at-once : feeds base w ps ≡ fed base w (joined ps)
   sound : SoundAt base 0 (feeds base w ps)
-
--- a part behind which there is room for so many, by row 20
-roomy : (base : ℕ) (g : Going) (memory marks part : List ℕ) → Sound base g memory marks 0 → row20 g part ≡ false
-    → Sound base g memory marks (length part + 0)
-unfolding row20
-roomy base g memory marks part s e =
-    record {
-      memory-long = s .memory-long;
-      marks-long = s .marks-long;
-      reach = s .reach;
-      few = omega (arith, ltb-false most (g .total + length part) e);
-      begins = s .begins;
-      number = s .number;
-      records = s .records;
-      cells = s .cells;
-    }
 
 -- a part that is taken, with what the others come to behind it
 part-arrives : (base : ℕ) (p : List ℕ) (ps : List (List ℕ)) (w : Stage) → SoundAt base (length p + 0) w

@@ -3,23 +3,23 @@ use mathlib.Core.Path.{_≡_, refl, sym, ap, _∙_, subst}
 use Prim.Native.Nat.{ℕ, suc, _+_, _-_, _^_, _≤_, _<_}
 use native.Mathlib.Nat.{zero-add, suc-add}
 use native.Mathlib.Omega.{arith}
-use mathlib.Core.Bool.{false}
+use mathlib.Core.Bool.{Bool, true, false, not, _&&_, _||_}
 use mathlib.Core.List.{List, [], _∷_, _++_}
 use mathlib.Core.Logic.{⊎-elim}
 use mathlib.Core.Option.{Option, none, some}
-use lib.Dec.{eqb, lit<}
+use lib.Dec.{leb, eqb, lit<}
 use lib.ListN.{length, take, replicate, length-append, length-replicate, length-take}
-use borrow.Author.Tests.{eq-eqb, le-leb, le-ltb, eqb-true, eqb-false}
+use borrow.Author.Tests.{eq-eqb, le-leb, le-ltb, ltb-false, leb-true, eqb-true, eqb-false, not-false}
 use Rattle.lists.specs.Lists.{over}
-use Rattle.lists.proofs.TestLaws.{by-test}
+use Rattle.lists.proofs.TestLaws.{by-test, and-both, or-neither}
 use Rattle.lists.proofs.OverLaws.{over-length, over-none}
 use Rattle.window.specs.declared.Refusal.{Refusal}
 use Rattle.window.specs.declared.Entry.{Entry}
-use Rattle.window.specs.Windows.{windowOf}
+use Rattle.window.specs.Windows.{Window, windowOf, row1}
 use Rattle.window.specs.Plans.{row12}
 use Rattle.window.specs.Marks.{claimRow, claimed}
 use Rattle.window.proofs.FillLaws.{inside}
-use Rattle.window.proofs.RowLaws.{allowed-is}
+use Rattle.window.proofs.RowLaws.{allowed-inv, allowed-is}
 use Rattle.text.specs.Scan.{State, Step}
 use Rattle.text.specs.Scan.Step.{refuse, skip, title, put, finish}
 use Rattle.text.proofs.FormatLaws.{IsRefusal, StepOk}
@@ -73,11 +73,11 @@ over-window base a l (x ∷ xs) h =
 
 -- buffers keep their lengths, and the numbers grow by one record, with at most n cells
 pub record Kept (n : ℕ) (k k′ : Known) (memory memory′ marks marks′ : List ℕ) : Type 0 where
-  memory-long : length memory′ ≡ length memory
-  marks-long : length marks′ ≡ length marks
-  number : k′ .state .number ≤ suc (k .state .number)
-  records : k′ .state .records ≤ suc (k .state .records)
-  cells : k′ .state .cells ≤ k .state .cells + n
+  pub memory-long : length memory′ ≡ length memory
+  pub marks-long : length marks′ ≡ length marks
+  pub number : k′ .state .number ≤ suc (k .state .number)
+  pub records : k′ .state .records ≤ suc (k .state .records)
+  pub cells : k′ .state .cells ≤ k .state .cells + n
 
 -- a refusal has a reason
 abbrev pub TurnKeeps : ℕ → Known → List ℕ → List ℕ → Turn → Type 0
@@ -192,6 +192,28 @@ fed-sound base (x ∷ xs) room w s =
     fed-sound base xs room (received base (w .status) (w .memory) (w .marks) x)
     (received-sound base (length xs + room) (w .status) (w .memory) (w .marks) x (rw (suc-add (length xs) room) at s))
 
+-- what the bounds of a possible state say
+possible-inv : (g : Going) → possible g ≡ true
+    → (g .total ≤ most) × (g .place + length (g .held) ≤ g .total) × (g .known .state .number ≤ g .place) × (g .known .state .records ≤ g .place)
+    × (g .known .state .cells ≤ g .place)
+unfolding possible
+possible-inv g e =
+    let b₀ : Bool = leb (g .total) most in
+    let b₁ : Bool = leb (g .place + length (g .held)) (g .total) in
+    let b₂ : Bool = leb (g .known .state .number) (g .place) in
+    let b₃ : Bool = leb (g .known .state .records) (g .place) in
+    let b₄ : Bool = leb (g .known .state .cells) (g .place) in
+    let d = and-both (b₀ && b₁ && b₂ && b₃) b₄ e in
+    let c = and-both (b₀ && b₁ && b₂) b₃ (d .0) in
+    let b = and-both (b₀ && b₁) b₂ (c .0) in
+    let a = and-both b₀ b₁ (b .0) in (
+      leb-true (g .total) most (a .0),
+      leb-true (g .place + length (g .held)) (g .total) (a .1),
+      leb-true (g .known .state .number) (g .place) (b .1),
+      leb-true (g .known .state .records) (g .place) (c .1),
+      leb-true (g .known .state .cells) (g .place) (d .1),
+    )
+
 -- neither row 1 nor row 20 in a call on a sound stage
 pub sound-allowed : (base room : ℕ) (g : Going) (memory marks : List ℕ) → Sound base g memory marks room
     → row1Later (windowOf base memory marks) g ≡ false
@@ -206,6 +228,44 @@ sound-allowed base room g memory marks s =
       le-leb (g .known .state .records) (g .place) (s .records),
       le-leb (g .known .state .cells) (g .place) (s .cells),
     )
+
+-- and where row 1 does not refuse a call, the stage is sound
+pub allowed-sound : (base : ℕ) (g : Going) (memory marks : List ℕ) → row1Later (windowOf base memory marks) g ≡ false → Sound base g memory marks 0
+unfolding row1Later possible
+allowed-sound base g memory marks e =
+    let W : Window = windowOf base memory marks in
+    let a : ((row1 W || not (eqb (length memory) (g .size))) ≡ false) × (not (possible g) ≡ false)
+    = or-neither (row1 W || not (eqb (length memory) (g .size))) (not (possible g)) e in
+    let b : (row1 W ≡ false) × (not (eqb (length memory) (g .size)) ≡ false) = or-neither (row1 W) (not (eqb (length memory) (g .size))) (a .0) in
+    let size : length memory ≡ g .size = eqb-true (length memory) (g .size) (not-false (eqb (length memory) (g .size)) (b .1)) in
+    let w = allowed-inv W (b .0) in
+    let p = possible-inv g (not-false (possible g) (a .1)) in
+    record {
+      memory-long = size;
+      marks-long = w .0 ∙ size;
+      reach = omega (arith, w .1, size);
+      few = omega (arith, p .0);
+      begins = p .1;
+      number = p .2;
+      records = p .3;
+      cells = p .4;
+    }
+
+-- where row 20 does not refuse a part, there is room for it
+pub roomy : (base : ℕ) (g : Going) (memory marks part : List ℕ) → Sound base g memory marks 0 → row20 g part ≡ false
+    → Sound base g memory marks (length part + 0)
+unfolding row20
+roomy base g memory marks part s e =
+    record {
+      memory-long = s .memory-long;
+      marks-long = s .marks-long;
+      reach = s .reach;
+      few = omega (arith, ltb-false most (g .total + length part) e);
+      begins = s .begins;
+      number = s .number;
+      records = s .records;
+      cells = s .cells;
+    }
 
 not-past : (base room : ℕ) (g : Going) (memory marks part : List ℕ) → Sound base g memory marks room → length part ≤ room → row20 g part ≡ false
 unfolding row20

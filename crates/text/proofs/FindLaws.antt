@@ -40,7 +40,7 @@ module _ (gap : ℕ → Bool) where
   front-take (c ∷ cs) = by-test (gap c) (λ e. rw e) (λ e. rw e (ap {B = List ℕ} (λ (r : List ℕ). c ∷ r) (front-take cs)))
 
   -- it is not longer than the text
-  shorter : (t : List ℕ) → length (front gap t) ≤ length t
+  pub shorter : (t : List ℕ) → length (front gap t) ≤ length t
   shorter [] = omega arith
   shorter (c ∷ cs) = by-test (gap c) (λ e. rw e (omega arith)) (λ e. rw e (omega (arith, shorter cs)))
 
@@ -77,7 +77,7 @@ module _ (gap : ℕ → Bool) where
     no-line h = skipped ∙ rw (drop-of-length-le text h)
 
     -- the next line is not empty
-    some-char : from < length text → 0 < length (front gap (drop from text))
+    pub some-char : from < length text → 0 < length (front gap (drop from text))
     some-char h = rw moved at (first-line (drop at text) at (rw moved (omega (arith, length-drop from text))))
 
     -- its characters are those from `from` up to `to`

@@ -1,0 +1,5 @@
+pub mod TurnLaws
+pub mod LoopLaws
+pub mod SettleLaws
+pub mod CallLaws
+pub mod EndLaws

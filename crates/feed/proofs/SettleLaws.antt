@@ -1,0 +1,64 @@
+-- What `settle` makes of the lines of a part.
+use mathlib.Core.Path.{_≡_, refl, sym, ap, _∙_, subst}
+use Prim.Native.Nat.{ℕ, _+_, _-_, _≤_, _<_}
+use mathlib.Core.List.{List, []}
+use lib.ListN.{length, take, drop, replicate}
+use Rattle.lists.proofs.PartLaws.{rest}
+use Rattle.window.specs.declared.Refusal.{Refusal}
+use Rattle.parts.specs.Parts.{Going, Status}
+use Rattle.parts.specs.Parts.Status.{going, halted}
+use Rattle.parts.specs.Stretches.{fresh, keptAll}
+use Rattle.intake.specs.declared.Tally.{Tally}
+use Rattle.intake.specs.Tallies.{knownOf}
+use Rattle.session.specs.declared.Session.{Session}
+use Rattle.session.specs.Sessions.{goingOf, statusOf}
+use Rattle.session.proofs.SessionLaws.{shows-going}
+use Rattle.feed.specs.declared.Rest.{Rest}
+use Rattle.feed.specs.declared.Rest.the-variants.{Refused, From}
+use Rattle.feed.specs.Feeds.{behind, RestIn}
+
+-- what is known of a refusal, and of a place
+pub rest-reason : (n : ℕ) (r : Rest) (f : Refusal) → r ≡ Refused f → RestIn n r → 0 < f .reason
+rest-reason n r f e h = subst (RestIn n) e h
+
+pub rest-inside : (n : ℕ) (r : Rest) (from : ℕ) (t : Tally) → r ≡ From from t → RestIn n r → from ≤ n
+rest-inside n r from t e h = subst (RestIn n) e h
+
+module _ (size total : ℕ) (header part marks : List ℕ) (r : Rest) where
+  -- a refusal
+  pub settled-refused : (f : Refusal) → r ≡ Refused f → (x : Status) (marks′ : List ℕ) → x ≡ halted f → marks′ ≡ replicate (length marks) 0
+      → (x ≡ behind size total header part r [] marks .status) × (marks′ ≡ behind size total header part r [] marks .marks)
+  settled-refused f e x marks′ q m = rw e (q, m)
+
+  -- the characters behind the last line end are kept
+  pub settled-from : (from : ℕ) (t : Tally) → r ≡ From from t → (s : Session) → s .refusal .reason ≡ 0
+      → goingOf s ≡ keptAll (fresh size (total + from) (knownOf t header)) (take (length part - from) (drop from part))
+      → (statusOf s ≡ behind size total header part r [] marks .status) × (marks ≡ behind size total header part r [] marks .marks)
+  settled-from from t e s z q =
+      rw e (
+        shows-going s z
+            ∙ ap going (q ∙ ap (keptAll (fresh size (total + from) (knownOf t header))) (rest from part)),
+        refl,
+      )
+
+  -- memory is not settled
+  pub same-status : (memory : List ℕ) → behind size total header part r [] marks .status ≡ behind size total header part r memory marks .status
+  same-status memory = go r
+    where
+      go : (r : Rest) → behind size total header part r [] marks .status ≡ behind size total header part r memory marks .status
+      go (Refused f) = refl
+      go (From from t) = refl
+
+  pub same-marks : (memory : List ℕ) → behind size total header part r [] marks .marks ≡ behind size total header part r memory marks .marks
+  same-marks memory = go r
+    where
+      go : (r : Rest) → behind size total header part r [] marks .marks ≡ behind size total header part r memory marks .marks
+      go (Refused f) = refl
+      go (From from t) = refl
+
+  pub own-memory : (memory : List ℕ) → memory ≡ behind size total header part r memory marks .memory
+  own-memory memory = go r
+    where
+      go : (r : Rest) → memory ≡ behind size total header part r memory marks .memory
+      go (Refused f) = refl
+      go (From from t) = refl

@@ -1,0 +1,154 @@
+-- `feed` meets its contract: rows 1 and 20, and the part.
+use mathlib.Core.Path.{_≡_, refl, sym, ap, _∙_}
+use native.Mathlib.Omega.{arith}
+use mathlib.Core.Bool.{true, false}
+use lib.Dec.{lit<}
+use lib.ListN.{length}
+use Rattle.window.specs.declared.Refusal.{Refusal}
+use Rattle.window.specs.Windows.{windowOf}
+use Rattle.parts.specs.Parts.{row1Later, row20}
+use Rattle.parts.specs.Parts.Status.{halted}
+use Rattle.session.specs.Sessions.{goingOf}
+use Rattle.feed.proofs.CallLaws.{shows, feed-refused, feed-barred, few-so-far, past, not-past, feed-past, feed-read, Reading, total-few, read-kept}
+use borrow.Author.Needs.{needs}
+use Rattle.feed.proofs.feed.Statement.{statement}
+use Rattle.feed.proofs.feed.Tie as tie
+
+-- places: the call, where the state's refusal was looked at, and where row 1 was tried
+abbrev start : tie.After-struct-known → tie.Start
+start c = c .before .before .before .before .before
+
+abbrev going-on : tie.After-is-barred → tie.Else1
+going-on c = c .before .before .before
+
+abbrev call : tie.After-is-barred → tie.Start
+call c = start (going-on c .before)
+
+line-long : (c : tie.Start) → length (c .args .session .line) ≡ 515
+line-long c = search needs
+
+-- row 1 applies, or not
+barred : (c : tie.Then2) → let a = call (c .before) .args in row1Later (windowOf (a .base) (a .memory .now) (a .marks .now)) (goingOf (a .session)) ≡ true
+barred c = sym (c .before .is-barred .ensures) ∙ c .if2 .taken
+
+allowed : (c : tie.Else2) → let a = call (c .before) .args in row1Later (windowOf (a .base) (a .memory .now) (a .marks .now)) (goingOf (a .session)) ≡ false
+allowed c = sym (c .before .is-barred .ensures) ∙ c .if2 .left
+
+-- row 20 does not
+short : (c : tie.Else3) → let a = call (c .before .before) .args in row20 (goingOf (a .session)) (a .part .now) ≡ false
+short c =
+    let e = c .before in
+    let a = call (e .before) .args in
+    not-past (a .session) (a .base) (a .memory .now) (a .marks .now) (a .part .now) (going-on (e .before) .if1 .left) (allowed e) (omega (arith, c .if3 .left))
+
+-- what the laws are told of a part that is read
+abbrev reading : tie.Else3 → Reading
+reading c =
+    let s = call (c .before .before) in
+    let a = s .args in
+    record {
+      session = a .session;
+      base = a .base;
+      memory = a .memory .now;
+      marks = a .marks .now;
+      part = a .part .now;
+      long = line-long s;
+      allowed = allowed (c .before);
+      fits = short c;
+    }
+
+returns : tie.Need-returns
+returns c = let a = start (c .before) .args in
+    shows (feed-refused (a .session) (a .base) (a .memory .now) (a .marks .now) (a .part .now) (c .if1 .taken)) refl refl refl
+
+halt-requires : tie.Need-halt-requires
+halt-requires c κs = rw (c .before .refuse .ensures) (lit< tt)
+
+returns-2 : tie.Need-returns-2
+returns-2 c =
+    let at-halt = c .before .before in
+    let at-refuse = at-halt .before .before in
+    let t = at-refuse .before in
+    let a = call (t .before) .args in
+    shows (feed-barred (a .session) (a .base) (a .memory .now) (a .marks .now) (a .part .now) (going-on (t .before) .if1 .left) (barred t)) (at-halt .halt .ensures .0 ∙ ap halted (at-refuse .refuse .ensures)) refl
+    (at-halt .halt .ensures .1)
+
+sub-if3 : tie.Need-sub-if3
+sub-if3 c =
+    let a = call (c .before) .args in
+    few-so-far (a .session) (a .base) (a .memory .now) (a .marks .now) (a .part .now) (going-on (c .before) .if1 .left) (allowed c)
+
+halt-requires-2 : tie.Need-halt-requires-2
+halt-requires-2 c κs = rw (c .before .refuse2 .ensures) (lit< tt)
+
+returns-3 : tie.Need-returns-3
+returns-3 c =
+    let at-halt = c .before .before in
+    let at-refuse = at-halt .before .before in
+    let t = at-refuse .before .before .before in
+    let e = t .before in
+    let z = going-on (e .before) .if1 .left in
+    let a = call (e .before) .args in
+    shows (feed-past (a .session) (a .base) (a .memory .now) (a .marks .now) (a .part .now) z (allowed e)
+    (past (a .session) (a .base) (a .memory .now) (a .marks .now) (a .part .now) z (allowed e) (omega (arith, t .if3 .taken))))
+    (at-halt .halt2 .ensures .0 ∙ ap halted (at-refuse .refuse2 .ensures)) refl (at-halt .halt2 .ensures .1)
+
+keep-requires : tie.Need-keep-requires
+keep-requires c κs = omega (arith, total-few (reading (c .before .before)))
+
+returns-4 : tie.Need-returns-4
+returns-4 c =
+    let t = c .before in
+    let k = t .before in
+    let e = k .before .before in
+    let z = going-on (e .before) .if1 .left in
+    let a = call (e .before) .args in
+    shows (feed-read (a .session) (a .base) (a .memory .now) (a .marks .now) (a .part .now) z (allowed e) (short (k .before))
+    ∙ read-kept (reading (k .before)) (sym (k .count-chars .ensures .0) ∙ t .if4 .taken) (c .keep .result)
+    (ap (λ (f : Refusal). f .reason) (c .keep .ensures .0) ∙ z) (c .keep .ensures .1)) refl refl refl
+
+take-part-requires : tie.Need-take-part-requires
+take-part-requires c κs =
+    let t = c .before .before in
+    let k = t .before in
+    let j = k .before in
+    let e = j .before in (
+      (going-on (e .before) .if1 .left, k .count-chars .ensures .0, omega (arith, k .count-chars .ensures .1, t .if4 .left)),
+      (allowed e, short j),
+    )
+
+returns-5 : tie.Need-returns-5
+returns-5 c =
+    let at-part = c .before .before .before .before in
+    let j = at-part .before .before .before .before .before in
+    let e = j .before in
+    let a = call (e .before) .args in
+    let q = feed-read (a .session) (a .base) (a .memory .now) (a .marks .now) (a .part .now) (going-on (e .before) .if1 .left) (allowed e) (short j) in
+    shows q (at-part .take-part .ensures .0) (at-part .take-part .ensures .1 .0) (at-part .take-part .ensures .1 .1)
+
+pub feed-spec : {M : Type 1} → statement M
+feed-spec =
+    tie.close
+    (tie.spec
+    returns
+    (λ c κs. search needs)
+    (λ c κs. search needs)
+    halt-requires
+    (λ c. search needs)
+    (λ c. search needs)
+    returns-2
+    sub-if3
+    (λ c κs. search needs)
+    halt-requires-2
+    (λ c. search needs)
+    (λ c. search needs)
+    returns-3
+    (λ c κs. search needs)
+    keep-requires
+    (λ c. search needs)
+    (λ c. search needs)
+    returns-4
+    take-part-requires
+    (λ c. search needs)
+    (λ c. search needs)
+    returns-5)

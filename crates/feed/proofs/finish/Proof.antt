@@ -1,0 +1,202 @@
+-- `finish` meets its contract: row 1, the record that is not complete, and row 14.
+use mathlib.Core.Path.{_≡_, refl, sym, ap, _∙_}
+use Prim.Native.Nat.{ℕ}
+use native.Mathlib.Omega.{arith}
+use mathlib.Core.Bool.{true, false}
+use mathlib.Core.List.{List}
+use lib.Dec.{lit<}
+use lib.ListN.{length, take, replicate}
+use lib.Seq.{length-take-le}
+use borrow.Author.Tests.{eq-eqb, not-true, not-false}
+use Rattle.window.specs.Windows.{windowOf}
+use Rattle.parts.specs.Parts.{lineTurn, row1Later}
+use Rattle.parts.specs.Parts.Status.{halted}
+use Rattle.parts.specs.Parts.Turn.{next}
+use Rattle.intake.specs.declared.Tally.{Tally}
+use Rattle.intake.specs.Tallies.{knownOf}
+use Rattle.session.specs.Sessions.{goingOf}
+use Rattle.feed.proofs.TurnLaws.{took-refused, took-next}
+use Rattle.feed.proofs.CallLaws.{shows}
+use Rattle.feed.proofs.EndLaws.{end-refused, end-barred, Closing, same-length, last-roomy, last-halts, last-reason, last-open, last-ended}
+use borrow.Author.Needs.{needs}
+use Rattle.feed.proofs.finish.Statement.{statement}
+use Rattle.feed.proofs.finish.Tie as tie
+
+-- places: the call, where the state's refusal was looked at, and where row 1 was tried
+abbrev start : tie.After-struct-known → tie.Start
+start c = c .before .before .before .before
+
+abbrev going-on : tie.After-is-barred → tie.Else1
+going-on c = c .before .before .before
+
+abbrev call : tie.After-is-barred → tie.Start
+call c = start (going-on c .before)
+
+line-long : (c : tie.Start) → length (c .args .session .line) ≡ 515
+line-long c = search needs
+
+header-long : (c : tie.Start) → length (c .args .session .header) ≡ 252
+header-long c = search needs
+
+-- row 1 applies, or not
+barred : (c : tie.Then2) → let a = call (c .before) .args in row1Later (windowOf (a .base) (a .memory .now) (a .marks .now)) (goingOf (a .session)) ≡ true
+barred c = sym (c .before .is-barred .ensures) ∙ c .if2 .taken
+
+allowed : (c : tie.Else2) → let a = call (c .before) .args in row1Later (windowOf (a .base) (a .memory .now) (a .marks .now)) (goingOf (a .session)) ≡ false
+allowed c = sym (c .before .is-barred .ensures) ∙ c .if2 .left
+
+-- the record that is not complete, where its characters are counted
+abbrev own : tie.After-smaller → tie.Else2
+own c = c .before .before .before .before .before
+
+abbrev closing : tie.After-smaller → Closing
+closing c =
+    let e = own c in
+    let s = call (e .before) in
+    let a = s .args in
+    record {
+      session = a .session;
+      base = a .base;
+      memory = a .memory .now;
+      marks = a .marks .now;
+      goes = going-on (e .before) .if1 .left;
+      allowed = allowed e;
+      n = c .smaller .result;
+      n-is = c .smaller .ensures;
+      long = line-long s;
+    }
+
+held : (c : tie.After-smaller) → let s = call (own c .before) in length (take (c .smaller .result) (s .args .session .line)) ≡ c .smaller .result
+held c = length-take-le _ _ (omega (arith, c .smaller .ensures, line-long (call (own c .before))))
+
+-- where it was taken
+abbrev counted : tie.After-take-line → tie.After-smaller
+counted c = c .before .before .before .before .before .before
+
+abbrev taken : tie.After-slice-known5 → tie.After-take-line
+taken c = c .before .before .before .before .before
+
+returns : tie.Need-returns
+returns c = let a = start (c .before) .args in
+    shows (end-refused (a .session) (a .base) (a .memory .now) (a .marks .now) (c .if1 .taken)) refl refl refl
+
+halt-requires : tie.Need-halt-requires
+halt-requires c κs = rw (c .before .refuse .ensures) (lit< tt)
+
+returns-2 : tie.Need-returns-2
+returns-2 c =
+    let at-halt = c .before .before in
+    let at-refuse = at-halt .before .before in
+    let t = at-refuse .before in
+    let a = call (t .before) .args in
+    shows (end-barred (a .session) (a .base) (a .memory .now) (a .marks .now) (going-on (t .before) .if1 .left) (barred t)) (at-halt .halt .ensures .0 ∙ ap halted (at-refuse .refuse .ensures)) refl
+    (at-halt .halt .ensures .1)
+
+array-share-prefix-line : tie.Need-array-share-prefix-line
+array-share-prefix-line c = let j = c .before in omega (arith, j .smaller .ensures, line-long (call (own j .before)))
+
+slice-aggregate-take-line : tie.Need-slice-aggregate-take-line
+slice-aggregate-take-line c = sym (held (c .before .before))
+
+slice-aggregate-take-line-2 : tie.Need-slice-aggregate-take-line-2
+slice-aggregate-take-line-2 c = sym (header-long (call (own (c .before .before .before) .before)))
+
+take-line-requires : tie.Need-take-line-requires
+take-line-requires c κs =
+    let j = c .before .before .before .before .before in
+    (j .before .before .before .before .digit-table .ensures, same-length (closing j), header-long (call (own j .before)), last-roomy (closing j))
+
+halt-requires-2 : tie.Need-halt-requires-2
+halt-requires-2 c κs =
+    let at-turn = c .before .before in
+    let k = taken (at-turn .before .before) in
+    last-reason (closing (counted k)) _ (took-refused _ _ _ _ _ _ (k .take-line .ensures) _ (at-turn .turn .given .1) .0)
+
+returns-3 : tie.Need-returns-3
+returns-3 c =
+    let at-halt = c .before .before in
+    let at-turn = at-halt .before .before .before in
+    let k = taken (at-turn .before .before) in
+    let y = took-refused _ _ _ _ _ _ (k .take-line .ensures) _ (at-turn .turn .given .1) in
+    shows (last-halts (closing (counted k)) _ (y .0)) (at-halt .halt2 .ensures .0) (y .1)
+    (at-halt .halt2 .ensures .1 ∙ ap (λ (n : ℕ). replicate n 0) (k .take-line .kept .1 .1 .1 .1 .1 .1 .1 .0))
+
+-- the last record was taken: where, the records with it, and what it left in header, memory and marks
+abbrev last : tie.After-struct-known2 → tie.After-turn2
+last c = c .before .before
+
+abbrev tally : tie.After-turn2 → Tally
+tally c = c .turn2 .given .0 .0
+
+abbrev header : tie.After-turn2 → List ℕ
+header c = taken (c .before .before) .take-line .last .1 .1 .1 .1 .1 .0
+
+abbrev memory : tie.After-turn2 → List ℕ
+memory c = taken (c .before .before) .take-line .last .1 .1 .1 .1 .1 .1 .0
+
+abbrev marks : tie.After-turn2 → List ℕ
+marks c = taken (c .before .before) .take-line .last .1 .1 .1 .1 .1 .1 .1 .0
+
+took : (c : tie.After-turn2) → let a = call (own (counted (taken (c .before .before))) .before) .args in
+    lineTurn (a .base) (a .session .place) (take (counted (taken (c .before .before)) .smaller .result) (a .session .line)) (a .memory .now) (a .marks .now)
+    (knownOf (a .session .tally) (a .session .header)) ≡ next (knownOf (tally c) (header c)) (memory c) (marks c)
+took c = took-next _ _ _ _ _ _ (taken (c .before .before) .take-line .ensures) _ (c .turn2 .given .1)
+
+halt-requires-3 : tie.Need-halt-requires-3
+halt-requires-3 c κs = rw (c .before .refuse2 .ensures) (lit< tt)
+
+same-length-5 : tie.Need-same-length-5
+same-length-5 c =
+    let at-turn = last (c .before .before .before .before .before .before .before) in
+    taken (at-turn .before .before) .take-line .kept .1 .1 .1 .1 .1 .1 .0
+
+returns-4 : tie.Need-returns-4
+returns-4 c =
+    let at-halt = c .before .before in
+    let at-refuse = at-halt .before .before in
+    let t = at-refuse .before .before in
+    let at-turn = last (t .before) in
+    let k = taken (at-turn .before .before) in
+    shows (last-open (closing (counted k)) (tally at-turn) (header at-turn) (memory at-turn) (marks at-turn) (took at-turn)
+    (not-true (tally at-turn .ended) (t .if3 .taken))) (at-halt .halt3 .ensures .0 ∙ ap halted (at-refuse .refuse2 .ensures)) refl
+    (at-halt .halt3 .ensures .1)
+
+returns-5 : tie.Need-returns-5
+returns-5 c =
+    let at-turn = last (c .before) in
+    let k = taken (at-turn .before .before) in
+    shows (last-ended (closing (counted k)) (tally at-turn) (header at-turn) (memory at-turn) (marks at-turn) (took at-turn)
+    (not-false (tally at-turn .ended) (c .if3 .left)))
+    (let e = own (counted k) in rw (eq-eqb (call (e .before) .args .session .refusal .reason) 0 (going-on (e .before) .if1 .left))) refl refl
+
+pub finish-spec : {M : Type 1} → statement M
+finish-spec =
+    tie.close
+    (tie.spec
+    returns
+    (λ c κs. search needs)
+    (λ c κs. search needs)
+    halt-requires
+    (λ c. search needs)
+    (λ c. search needs)
+    returns-2
+    (λ c κs. search needs)
+    (λ c κs. search needs)
+    array-share-prefix-line
+    slice-aggregate-take-line
+    slice-aggregate-take-line-2
+    take-line-requires
+    (λ c. search needs)
+    halt-requires-2
+    (λ c. search needs)
+    (λ c. search needs)
+    returns-3
+    (λ c. search needs)
+    (λ c κs. search needs)
+    halt-requires-3
+    same-length-5
+    (λ c. search needs)
+    returns-4
+    (λ c. search needs)
+    (λ c. search needs)
+    returns-5)

@@ -1,0 +1,81 @@
+-- `settle` meets its contract: a refusal, or the characters behind the last line end are kept.
+use mathlib.Core.Path.{_≡_, ap, _∙_}
+use Prim.Native.Nat.{ℕ, _≤_}
+use native.Mathlib.Omega.{arith}
+use lib.ListN.{length}
+use Rattle.lists.proofs.PartLaws.{part-long}
+use Rattle.window.specs.declared.Refusal.{Refusal}
+use Rattle.feed.proofs.SettleLaws.{rest-reason, rest-inside, settled-refused, settled-from}
+use borrow.Author.Needs.{needs}
+use Rattle.feed.proofs.settle.Statement.{statement}
+use Rattle.feed.proofs.settle.Tie as tie
+
+-- places: the call, before the match
+abbrev call : tie.After-slice-known → tie.Start
+call c = c .before .before
+
+-- where the characters behind the last line end begin
+abbrev own : tie.After-rest2 → tie.Start
+own c = call (c .before .before)
+
+abbrev from : tie.After-rest2 → ℕ
+from c = c .rest2 .given .0 .0
+
+inside : (c : tie.After-rest2) → from c ≤ length (own c .args .part .now)
+inside c = rest-inside _ (own c .args .rest) (from c) _ (c .rest2 .given .1) (own c .pre .2)
+
+halt-requires : tie.Need-halt-requires
+halt-requires c κs =
+    let at-rest = c .before .before in
+    let s = call (at-rest .before .before) in
+    rest-reason _ (s .args .rest) _ (at-rest .rest .given .1) (s .pre .2)
+
+returns : tie.Need-returns
+returns c =
+    let at-halt = c .before .before in
+    let at-rest = at-halt .before .before .before in
+    let a = call (at-rest .before .before) .args in
+    settled-refused (a .session .size) (a .session .total) (a .header) (a .part .now) (a .marks .now) (a .rest) _ (at-rest .rest .given .1) _ _
+    (at-halt .halt .ensures .0) (at-halt .halt .ensures .1)
+
+add-s : tie.Need-add-s
+add-s c = let j = c .before .before in record { fits = omega (arith, inside j, own j .pre .1) }
+
+add-s-2 : tie.Need-add-s-2
+add-s-2 c = let j = c .before .before .before in record { fits = omega (arith, inside j, own j .pre .1) }
+
+sub-keep : tie.Need-sub-keep
+sub-keep c = inside (c .before .before .before)
+
+part-keep-start : tie.Need-part-keep-start
+part-keep-start c = inside (c .before .before .before)
+
+keep-requires : tie.Need-keep-requires
+keep-requires c κs =
+    let j = c .before .before .before .before in
+    let l = own j .args .part .now in
+    omega (arith, inside j, own j .pre .1, part-long l (from j) (length l) (inside j) (omega arith))
+
+returns-2 : tie.Need-returns-2
+returns-2 c =
+    let j = c .before .before .before .before .before in
+    let a = own j .args in
+    settled-from (a .session .size) (a .session .total) (a .header) (a .part .now) (a .marks .now) (a .rest) (from j) _ (j .rest2 .given .1)
+    (c .keep .result) (ap (λ (f : Refusal). f .reason) (c .keep .ensures .0) ∙ own j .pre .0) (c .keep .ensures .1)
+
+pub settle-spec : {M : Type 1} → statement M
+settle-spec =
+    tie.close
+    (tie.spec
+    (λ c. search needs)
+    halt-requires
+    (λ c. search needs)
+    returns
+    (λ c. search needs)
+    add-s
+    add-s-2
+    sub-keep
+    part-keep-start
+    (λ c. search needs)
+    keep-requires
+    returns-2)
