@@ -1,7 +1,6 @@
 -- A part: what is known behind rows 1 and 20, and one law for each answer of `feed` and `take_part`.
-use mathlib.Core.Path.{_≡_, refl, sym, ap, _∙_, subst}
-use Prim.Native.Nat.{ℕ, suc, _+_, _-_, _^_, _≤_, _<_}
-use native.Mathlib.Numerals.{add-one}
+use mathlib.Core.Path.{_≡_, sym, ap, _∙_}
+use Prim.Native.Nat.{ℕ, suc, _+_, _-_, _≤_, _<_}
 use native.Mathlib.Omega.{arith}
 use mathlib.Core.Bool.{true, false}
 use mathlib.Core.List.{List, [], _++_}
@@ -15,7 +14,7 @@ use Rattle.text.specs.Lines.{front}
 use Rattle.text.proofs.FindLaws.{front-take}
 use Rattle.srec.specs.Lines.{isEnd}
 use Rattle.parts.specs.Parts.{Known, Going, Status, Stage, stage, stopped, Turn, lineTurn, fed, most, row1Later, row20, feedIn}
-use Rattle.parts.specs.Parts.Status.{going, halted}
+use Rattle.parts.specs.Parts.Status.{going}
 use Rattle.parts.specs.Parts.Turn.{halt, next}
 use Rattle.parts.specs.Stretches.{fresh, keptAll}
 use Rattle.parts.proofs.SoundLaws.{Sound, allowed-sound, roomy, TurnKeeps}
@@ -180,8 +179,8 @@ module _ (p : Reading) where
       next-few =
           let o = sound in
           let l : length (lineHeld base memory marks g short part ends-in) ≤ length (g .held) + first = rw (length-take, length-append) (omega (arith, first-is)) in (
-            omega (arith, keeps .number, o .number, o .begins),
-            omega (arith, keeps .records, o .records, o .begins),
+            omega (arith, keeps .number, o .number, o .begins, l),
+            omega (arith, keeps .records, o .records, o .begins, l),
             omega (arith, keeps .cells, o .cells, o .begins, l),
             omega (arith, o .few),
           )

@@ -1,10 +1,10 @@
 -- The end of a load in parts: one law for each answer of `finish`.
 use mathlib.Core.Path.{_≡_, sym, ap, _∙_, subst}
-use Prim.Native.Nat.{ℕ, _+_, _≤_, _<_, _^_, min}
+use Prim.Native.Nat.{ℕ, _<_, min}
 use native.Mathlib.Omega.{arith}
 use mathlib.Core.Bool.{true, false}
-use mathlib.Core.List.{List, []}
-use lib.ListN.{length, take, length-take}
+use mathlib.Core.List.{List}
+use lib.ListN.{length, take}
 use borrow.Author.Tests.{eq-eqb, ne-eqb}
 use Rattle.window.specs.declared.Refusal.{Refusal}
 use Rattle.window.specs.Windows.{windowOf}

@@ -1,20 +1,16 @@
 -- The lines of a part one after the other: one law for each way out of the loop of `take_lines`, and one for the way round.
-use mathlib.Core.Path.{_≡_, refl, sym, ap, _∙_, subst}
+use mathlib.Core.Path.{_≡_, sym, ap, _∙_, subst}
 use Prim.Native.Nat.{ℕ, suc, _+_, _-_, _≤_, _<_}
-use native.Mathlib.Nat.{add-sub-cancel-left}
 use native.Mathlib.Omega.{arith}
-use mathlib.Core.Bool.{Bool, true, false, cond}
-use mathlib.Core.List.{List, [], _∷_, _++_}
+use mathlib.Core.List.{List, []}
 use lib.Dec.{ltb}
-use lib.ListN.{length, take, drop, replicate, length-drop, length-take}
+use lib.ListN.{length, take, drop, length-drop, length-take}
 use lib.Seq.{drop-drop}
 use borrow.Author.Tests.{ltb-true, ltb-false}
 use Rattle.lists.proofs.TestLaws.{by-test}
-use Rattle.lists.proofs.PartLaws.{part-long}
 use Rattle.window.specs.declared.Refusal.{Refusal}
 use Rattle.text.specs.declared.State.{State}
 use Rattle.text.specs.declared.Step.{Step}
-use Rattle.text.specs.declared.Taken.{Taken}
 use Rattle.text.specs.declared.Taken.the-variants.{Line, Nothing}
 use Rattle.text.specs.Lines.{front}
 use Rattle.text.specs.Finds.{leading}
@@ -22,7 +18,7 @@ use Rattle.text.specs.Steps.{stateWith, asStep}
 use Rattle.text.proofs.FindLaws.{part, front-take, shorter, some-char}
 use Rattle.srec.specs.Lines.{isEnd}
 use Rattle.srec.specs.Formats.{srec}
-use Rattle.parts.specs.Parts.{Known, Going, Stage, stage, stopped, Turn, recordTurn, lineTurn, fed, most}
+use Rattle.parts.specs.Parts.{Going, Stage, stage, stopped, recordTurn, lineTurn, fed, most}
 use Rattle.parts.specs.Parts.Status.{going}
 use Rattle.parts.specs.Parts.Turn.{halt, next}
 use Rattle.parts.specs.Stretches.{fresh, keptAll}
@@ -177,8 +173,8 @@ module _ {base size total : ℕ} {text : List ℕ} {w : Stage} {memory marks : L
           marks-long = k .marks-long ∙ x .marks-long;
           header-long = l;
           few = (
-            omega (arith, k .number, x .few .0, n .begins, n .ends),
-            omega (arith, k .records, x .few .1, n .begins, n .ends),
+            omega (arith, k .number, held, x .few .0, n .begins, n .ends),
+            omega (arith, k .records, held, x .few .1, n .begins, n .ends),
             omega (arith, k .cells, held, x .few .2, n .begins, n .ends),
             omega (arith, x .few .3, x .inside, n .inside),
           );

@@ -1,11 +1,11 @@
 -- What `settle` makes of the lines of a part.
-use mathlib.Core.Path.{_≡_, refl, sym, ap, _∙_, subst}
+use mathlib.Core.Path.{_≡_, refl, ap, _∙_, subst}
 use Prim.Native.Nat.{ℕ, _+_, _-_, _≤_, _<_}
 use mathlib.Core.List.{List, []}
 use lib.ListN.{length, take, drop, replicate}
 use Rattle.lists.proofs.PartLaws.{rest}
 use Rattle.window.specs.declared.Refusal.{Refusal}
-use Rattle.parts.specs.Parts.{Going, Status}
+use Rattle.parts.specs.Parts.{Status}
 use Rattle.parts.specs.Parts.Status.{going, halted}
 use Rattle.parts.specs.Stretches.{fresh, keptAll}
 use Rattle.intake.specs.declared.Tally.{Tally}

@@ -1,8 +1,7 @@
 -- What the lines of a part come to, between the functions that take them.
-use mathlib.Core.Path.{_≡_}
 use Prim.Native.Nat.{ℕ, _+_, _≤_, _<_}
 use mathlib.Core.List.{List}
-use lib.ListN.{length, drop}
+use lib.ListN.{drop}
 use Rattle.text.specs.declared.State.{State}
 use Rattle.parts.specs.Parts.{Stage, stage, stopped, most}
 use Rattle.parts.specs.Parts.Status.{going}

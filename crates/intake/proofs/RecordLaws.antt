@@ -16,7 +16,7 @@ use Rattle.window.specs.Marks.{claimRow, claimed}
 use Rattle.text.specs.declared.State.{State}
 use Rattle.text.specs.declared.Step.{Step}
 use Rattle.text.specs.declared.Step.the-variants.{Refuse, Pass, Put, Finish}
-use Rattle.text.specs.Scan.{Fault, State as ScanState, Step as ScanStep, more, moreData}
+use Rattle.text.specs.Scan.{Fault, State as ScanState, Step as ScanStep, moreData}
 use Rattle.text.specs.Scan.Step.{refuse, skip, title, put, finish}
 use Rattle.text.specs.Steps.{stateWith, asStep}
 use Rattle.text.specs.Terms.{headerIn}

@@ -1,9 +1,9 @@
 -- The next line of a part: one law for each answer, and for a line that a fast way is sure of.
-use mathlib.Core.Path.{_≡_, refl, ap, _∙_, subst}
-use Prim.Native.Nat.{ℕ, _+_, _-_, _≤_, _<_, _^_}
+use mathlib.Core.Path.{_≡_, ap, _∙_, subst}
+use Prim.Native.Nat.{ℕ, _+_, _-_, _≤_, _<_}
 use native.Mathlib.Omega.{arith}
 use mathlib.Core.List.{List, []}
-use lib.ListN.{length, take, drop, length-drop}
+use lib.ListN.{length, drop, length-drop}
 use lib.Seq.{drop-drop}
 use borrow.Author.Tests.{lt-ltb, le-ltb}
 use Rattle.lists.proofs.PartLaws.{part-long}
@@ -19,7 +19,7 @@ use Rattle.text.proofs.FindLaws.{part, front-long}
 use Rattle.srec.specs.Lines.{isEnd}
 use Rattle.srec.specs.Formats.{srec}
 use Rattle.intake.specs.Tallies.{Roomy}
-use Rattle.intake.specs.Takes.{beginOf, endOf, stepIn, lineIn, nextIn}
+use Rattle.intake.specs.Takes.{beginOf, endOf, lineIn, nextIn}
 
 -- a part has room for each stretch in it
 pub room : (total : ℕ) (n : State) (text : List ℕ) (from to : ℕ) → Roomy total n (length text) → from ≤ to → to ≤ length text

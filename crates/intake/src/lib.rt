@@ -37,6 +37,18 @@ pub enum Turn {
     Next(Tally),
 }
 
+// The records before a terminator.
+pub fn going_on(state: State, head: usize) -> Tally
+    ensures { λ r. ⌜ r ≡ record { state = state; head = head; ended = false; entry = Absent } ⌝ }
+{
+    Tally {
+        state,
+        head,
+        ended: false,
+        entry: Entry::Absent,
+    }
+}
+
 // Keeps the data of an S0 as the header, of which `head` bytes are kept so far, and answers how many are kept now.
 fn keep_header(table: &[u32; 256], chars: &[u8], head: usize, header: &mut [u8]) -> usize
     requires { ⌜ (now table ≡ digitTable) × (length (now header) ≡ 252) × IsGood (read (now chars)) ⌝ }
@@ -98,18 +110,6 @@ pub fn take_step(
             storing::place_record(table, base, memory, chars);
             return Turn::Next(going_on(next, head));
         }
-    }
-}
-
-// The records before a terminator.
-pub fn going_on(state: State, head: usize) -> Tally
-    ensures { λ r. ⌜ r ≡ record { state = state; head = head; ended = false; entry = Absent } ⌝ }
-{
-    Tally {
-        state,
-        head,
-        ended: false,
-        entry: Entry::Absent,
     }
 }
 

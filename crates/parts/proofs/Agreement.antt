@@ -3,7 +3,8 @@ use mathlib.Core.Path.{_≡_, refl, sym, ap, _∙_, subst}
 use Prim.Native.Nat.{ℕ, zero, suc, _+_, _≤_}
 use native.Mathlib.Nat.{zero-add}
 use native.Mathlib.Omega.{arith}
-use mathlib.Core.Bool.{true, false}
+use mathlib.Core.Bool.{Bool, true, false, not, _||_}
+use lib.Dec.{eqb}
 use mathlib.Core.List.{List, [], _∷_}
 use mathlib.Core.Option.{none}
 use mathlib.Core.Logic.{⊎-elim, _⊎_, inl, inr}
@@ -25,11 +26,11 @@ use Rattle.text.specs.Load.{load, loadAnswer, memoryAfter, marksAfter}
 use Rattle.text.specs.Terms.{dataRecords}
 use Rattle.srec.specs.Lines.{isEnd}
 use Rattle.srec.specs.Formats.{srec}
-use Rattle.parts.specs.Parts.{Going, Status, Stage, stage, fed, most, row1Later, row20, begun, feed, end}
+use Rattle.parts.specs.Parts.{Going, Status, Stage, stage, closed, fed, most, row1Later, row20, begun, feedIn, feed, conclude, endIn, end}
 use Rattle.parts.specs.Parts.Status.{going, halted}
 use Rattle.parts.specs.Agreement.Cut.{at-record, at-end, at-begin}
-use Rattle.parts.specs.Agreement.{feeds, joined, Ending, seen, inParts, storedBefore, memoryKept, laid, Keeps, Agrees, However-cut, Short-agrees, Parts-at-once, Given-out-goes-on, Refusals-stay}
-use Rattle.parts.proofs.SoundLaws.{Sound, SoundIn, SoundAt, fed-sound, sound-allowed, roomy, feed-is-fed, fed-append}
+use Rattle.parts.specs.Agreement.{feeds, joined, Ending, seen, inParts, storedBefore, memoryKept, laid, Keeps, Agrees, However-cut, Short-agrees, Parts-at-once, AsLent, Given-out, Given-out-goes-on, Refusals-stay}
+use Rattle.parts.proofs.SoundLaws.{Sound, SoundIn, SoundAt, fed-sound, end-sound, sound-possible, sound-allowed, allowed-sound, roomy, feed-is-fed, fed-append}
 use Rattle.parts.proofs.PartWalkLaws.{finishedAt, ending, walk}
 use Rattle.parts.proofs.KeptLaws.{scan-kept}
 
@@ -202,7 +203,8 @@ refused-kept W text f memory q m =
       before = k .before;
       rest = k .rest;
       all-lines = k .all-lines;
-      cut = ⊎-elim (λ (o : f .ordinal ≡ suc (0 + length (k .before))). at-record (o ∙ ap suc (zero-add (length (k .before)))))
+      cut = ⊎-elim
+          (λ (o : (f .ordinal ≡ suc (0 + length (k .before))) × (f .reason ≡ 14 → ⊥)). at-record (o .0 ∙ ap suc (zero-add (length (k .before)))) (o .1))
           (λ o. at-end (o .0) (o .1)) (k .cut);
       stored = (rw e at m) ∙ k .stored ∙ ap (λ (x : List ℕ). laid (W .base) x (dataRecords (srec .part) (k .before))) (overlaid-blank (W .memory));
     })
@@ -242,6 +244,45 @@ short-agrees W ps h = agrees W ps (by-test (row1 W) (λ e. refused-parts W ps e)
 
 pub parts-at-once : Parts-at-once
 parts-at-once base w xs ys = sym (fed-append base xs ys w)
+
+-- a state of a sound stage is refused by what is lent alone
+as-lent : (base room : ℕ) (x : Status) (memory marks : List ℕ) → SoundIn base room x memory marks → AsLent x
+unfolding row1Later
+as-lent base room (halted f) memory marks s = tt
+as-lent base room (going g) memory marks s =
+    λ W. rw (sound-possible base room g memory marks s) (or-false (row1 W || not (eqb (length (W .memory)) (g .size))))
+  where
+    or-false : (b : Bool) → (b || false) ≡ b
+    or-false true = refl
+    or-false false = refl
+
+-- every stage that is given out is sound, or refused
+pub given-out : Given-out
+unfolding begun
+given-out =
+    record {
+      by-begin = λ W. by-test (row1 W) (λ e. rw e tt)
+          (λ e. as-lent (W .base) 0 (begun W .status) (begun W .memory) (begun W .marks) (begun-sound W 0 e (omega arith)));
+      by-feed = fed-lent;
+      by-end = end-lent;
+    }
+  where
+    fed-lent : (x : Status) (W : Window) (part : List ℕ) → AsLent (feedIn x W part .status)
+    fed-lent (halted f) W part = tt
+    fed-lent (going g) W part =
+        by-test (row1Later W g) (λ e. rw e tt)
+        (λ e. by-test (row20 g part) (λ t. rw (e, t) tt)
+        (λ t. let s = roomy (W .base) g (W .memory) (W .marks) part (allowed-sound (W .base) g (W .memory) (W .marks) e) t in
+        let w : Stage = fed (W .base) (stage (going g) (W .memory) (W .marks)) part in
+        rw (e, t) (as-lent (W .base) 0 (w .status) (w .memory) (w .marks) (fed-sound (W .base) part 0 (stage (going g) (W .memory) (W .marks)) s))))
+
+    end-lent : (x : Status) (W : Window) → AsLent (endIn x W .status)
+    end-lent (halted f) W = tt
+    end-lent (going g) W =
+        by-test (row1Later W g) (λ e. rw e tt)
+        (λ e. let w : Stage = conclude (closed (W .base) g (W .memory) (W .marks)) in
+        rw e (as-lent (W .base) 0 (w .status) (w .memory) (w .marks)
+        (end-sound (W .base) g (W .memory) (W .marks) (allowed-sound (W .base) g (W .memory) (W .marks) e))))
 
 -- a stage that is given out is sound, so row 1 does not apply to it
 pub given-out-goes-on : Given-out-goes-on

@@ -1,13 +1,15 @@
 -- What a refused load has stored: the data of the records before the refused one.
 use mathlib.Core.Path.{_≡_, refl, sym, ap, _∙_, subst}
-use Prim.Native.Nat.{ℕ, suc, _+_, _-_}
+use Prim.Native.Nat.{ℕ, suc, _+_, _-_, _<_}
 use native.Mathlib.Nat.{add-zero}
 use native.Mathlib.Omega.{arith}
 use mathlib.Core.Bool.{false}
 use mathlib.Core.List.{List, [], _∷_, _++_}
 use mathlib.Core.Logic.{⊎-elim, _⊎_, inl, inr}
-use lib.ListN.{length}
-use Rattle.lists.proofs.TestLaws.{by-test}
+use lib.Dec.{lit<}
+use lib.ListN.{length, getD, drop}
+use Rattle.lists.proofs.TestLaws.{by-test, Of, either}
+use Rattle.hex.specs.Digits.{bytes}
 use Rattle.window.specs.declared.Refusal.{Refusal}
 use Rattle.window.specs.declared.Entry.{Entry}
 use Rattle.window.specs.Images.{Image, overlaid}
@@ -21,6 +23,11 @@ use Rattle.text.specs.Scan.{State, Step, more, moreData, ended, onward, scan}
 use Rattle.text.specs.Scan.Step.{refuse, skip, title, put, finish}
 use Rattle.text.specs.Terms.{dataOf, dataRecords}
 use Rattle.text.proofs.FormatLaws.{IsRefusal}
+use Rattle.srec.specs.Kinds.{Kind, kindOf, known}
+use Rattle.srec.specs.Kinds.Kind.{S0, Data, S5, End}
+use Rattle.srec.specs.Reading.{Read, row3, row4, row5, row6, row7, read}
+use Rattle.srec.specs.Reading.Read.{good, bad}
+use Rattle.srec.specs.Judging.{row8, row10, row11, judge, judged}
 use Rattle.srec.specs.Formats.{srec}
 use Rattle.srec.proofs.SrecFormatLaws.{lawful}
 use Rattle.parts.specs.Agreement.{storedBefore, laid}
@@ -29,22 +36,61 @@ use Rattle.parts.specs.Agreement.{storedBefore, laid}
 part-is : (s : State) (chars : List ℕ) (x : Step) → srec .step s chars ≡ x → (IsRefusal x → ⊥) → srec .part chars ≡ x
 part-is s chars x e h = ⊎-elim {C = srec .part chars ≡ x} (λ r. absurd (h (subst IsRefusal e r))) (λ q. sym q ∙ e) (lawful .says s chars)
 
+-- ---- the rows of a record
+
+-- by its characters and the records before it a record is refused by one of rows 3 to 11
+abbrev StepRow : Step → Type 0
+StepRow (refuse f) = f .reason < 12
+StepRow skip = Unit {0}
+StepRow (title h) = Unit {0}
+StepRow (put a ds) = Unit {0}
+StepRow (finish e) = Unit {0}
+
+abbrev ReadRow : Read → Type 0
+ReadRow (good k a ds) = Unit {0}
+ReadRow (bad f) = f .reason < 12
+
+read-row : (cs : List ℕ) → Of ReadRow (read cs)
+unfolding read
+read-row cs =
+    let k : Kind = known (kindOf (getD cs 1 0)) in
+    let bs : List ℕ = bytes (drop 2 cs) in
+    either (row3 cs) (record { got = lit< tt }) (either (row4 cs) (record { got = lit< tt }) (either (row5 cs) (record { got = lit< tt })
+    (either (row6 k (length cs) (getD bs 0 0)) (record { got = lit< tt }) (either (row7 bs) (record { got = lit< tt }) (record { got = tt })))))
+
+judge-row : (s : State) (k : Kind) (a : ℕ) (ds : List ℕ) → Of StepRow (judge s k a ds)
+unfolding judge
+judge-row s S0 a ds = either (row8 s) (record { got = lit< tt }) (record { got = tt })
+judge-row s (Data w) a ds = either (row11 w a (length ds)) (record { got = lit< tt }) (record { got = tt })
+judge-row s S5 a ds = either (row10 s a) (record { got = lit< tt }) (record { got = tt })
+judge-row s (End w) a ds = record { got = tt }
+
+step-row : (s : State) (cs : List ℕ) → StepRow (srec .step s cs)
+step-row s cs = go (read cs) (read-row cs .got)
+  where
+    go : (r : Read) → ReadRow r → StepRow (judged s r)
+    go (good k a ds) h = judge-row s k a ds .got
+    go (bad f) h = h
+
+-- ---- what is kept
+
 module _ (base : ℕ) (m₀ : List ℕ) where
   -- n records came before these lines; memory is what they left
   pub record KeptFrom (f : Refusal) (n : ℕ) (memory : List ℕ) (ls : List Line) (memory′ : List ℕ) : Type 0 where
     pub before : List Line
     pub rest : List Line
     pub all-lines : ls ≡ before ++ rest
-    pub cut : (f .ordinal ≡ suc (n + length before)) ⊎ ((f .reason ≡ 14) × (rest ≡ []))
+    pub cut : ((f .ordinal ≡ suc (n + length before)) × (f .reason ≡ 14 → ⊥)) ⊎ ((f .reason ≡ 14) × (rest ≡ []))
     pub stored : memory′ ≡ laid base memory (dataRecords (srec .part) before)
 
   -- the refusal names the first of the lines
-  first-refused : (f : Refusal) (n : ℕ) (memory : List ℕ) (ls : List Line) (reason place want : ℕ)
+  first-refused : (f : Refusal) (n : ℕ) (memory : List ℕ) (ls : List Line) (reason place want : ℕ) → (reason ≡ 14 → ⊥)
       → refused (refusalWith reason (suc n) place want) ≡ refused f
       → KeptFrom f n memory ls memory
-  first-refused f n memory ls reason place want q =
+  first-refused f n memory ls reason place want z q =
       let e : f .ordinal ≡ suc n = cc in
-      record { before = []; rest = ls; all-lines = refl; cut = inl (e ∙ ap suc (sym (add-zero n))); stored = refl }
+      let r : reason ≡ f .reason = cc in
+      record { before = []; rest = ls; all-lines = refl; cut = inl (e ∙ ap suc (sym (add-zero n)), λ y. z (r ∙ y)); stored = refl }
 
   -- one line more before the refused one
   one-more : (f : Refusal) (n : ℕ) (memory memory₁ memory′ : List ℕ) (l : Line) (ls : List Line)
@@ -59,9 +105,9 @@ module _ (base : ℕ) (m₀ : List ℕ) where
         stored = k .stored ∙ sym (d (dataRecords (srec .part) (k .before)));
       }
     where
-      shifted : (f .ordinal ≡ suc (suc n + length (k .before))) ⊎ ((f .reason ≡ 14) × (k .rest ≡ []))
-          → (f .ordinal ≡ suc (n + suc (length (k .before)))) ⊎ ((f .reason ≡ 14) × (k .rest ≡ []))
-      shifted (inl o) = inl (o ∙ omega arith)
+      shifted : ((f .ordinal ≡ suc (suc n + length (k .before))) × (f .reason ≡ 14 → ⊥)) ⊎ ((f .reason ≡ 14) × (k .rest ≡ []))
+          → ((f .ordinal ≡ suc (n + suc (length (k .before)))) × (f .reason ≡ 14 → ⊥)) ⊎ ((f .reason ≡ 14) × (k .rest ≡ []))
+      shifted (inl o) = inl (o .0 ∙ omega arith, o .1)
       shifted (inr o) = inr o
 
   -- what is stored of a plan that is refused
@@ -71,7 +117,7 @@ module _ (base : ℕ) (m₀ : List ℕ) where
   -- behind a terminator
   ended-kept : (f : Refusal) (s : State) (e : Entry) (img : Image) (ls : List Line) → Told f (suc (s .number)) img ls (ended s e ls)
   ended-kept f s e img [] q = absurd (let z : _≡_ {A = ℕ} 0 1 = cc in omega arith)
-  ended-kept f s e img (l ∷ ls) q = first-refused f (suc (s .number)) (overlaid m₀ img) (l ∷ ls) 2 (l .place) 0 q
+  ended-kept f s e img (l ∷ ls) q = first-refused f (suc (s .number)) (overlaid m₀ img) (l ∷ ls) 2 (l .place) 0 (λ z. omega arith) q
 
   module _ (size : ℕ) (f : Refusal) (s : State) (l : Line) (ls : List Line)
       (more-kept : (u : State) (x : Image) → length x ≡ length m₀ → Told f (u .number) x ls (scan (srec .step) size u ls)) where
@@ -96,7 +142,8 @@ module _ (base : ℕ) (m₀ : List ℕ) where
 
     step-kept : (img : Image) → length img ≡ length m₀ → (x : Step) → srec .step s (l .chars) ≡ x → Told f (s .number) img (l ∷ ls) (from-step x)
     step-kept img long (refuse g) e q =
-        first-refused f (s .number) (overlaid m₀ img) (l ∷ ls) (g .reason) (l .place + g .offset) (g .want) q
+        let r : g .reason < 12 = subst StepRow e (step-row s (l .chars)) in
+        first-refused f (s .number) (overlaid m₀ img) (l ∷ ls) (g .reason) (l .place + g .offset) (g .want) (λ z. omega arith) q
     step-kept img long skip e q =
         without img _ (λ rs. ap (λ (y : Step). dataOf y rs) (part-is s (l .chars) skip e (λ r. r))) (more-kept (more s (s .header)) img long q)
     step-kept img long (title h) e q =
@@ -105,9 +152,9 @@ module _ (base : ℕ) (m₀ : List ℕ) where
         without img _ (λ rs. ap (λ (y : Step). dataOf y rs) (part-is s (l .chars) (finish a) e (λ r. r))) (ended-kept f s a img ls q)
     step-kept img long (put a ds) e q =
         by-test (row12 base (length img) a (length ds))
-        (λ t. rw t (first-refused f (s .number) (overlaid m₀ img) (l ∷ ls) 12 (l .place) 0 (rw t at q)))
+        (λ t. rw t (first-refused f (s .number) (overlaid m₀ img) (l ∷ ls) 12 (l .place) 0 (λ z. omega arith) (rw t at q)))
         (λ t. by-test (row13 base img a (length ds))
-        (λ v. rw (t, v) (first-refused f (s .number) (overlaid m₀ img) (l ∷ ls) 13 (l .place) 0 (rw (t, v) at q)))
+        (λ v. rw (t, v) (first-refused f (s .number) (overlaid m₀ img) (l ∷ ls) 13 (l .place) 0 (λ z. omega arith) (rw (t, v) at q)))
         (λ v. rw (t, v) (with-data img long a ds _ (part-is s (l .chars) (put a ds) e (λ r. r)) t
         (more-kept (moreData s (length ds)) (filled base img a ds)
         (fill-length base img (record { addr = a; bytes = ds } ∷ []) (t, v, tt) ∙ long) (rw (t, v) at q)))))

@@ -28,7 +28,7 @@ use Rattle.srec.specs.Formats.{srec}
 use Rattle.srec.proofs.LimitLaws.{limits}
 use Rattle.srec.proofs.SrecFormatLaws.{lawful}
 use Rattle.srec_step.proofs.JudgeLaws.{counting}
-use Rattle.parts.specs.Parts.{Known, Going, Status, Stage, stage, Turn, stored, stepTurn, recordTurn, lineTurn, afterTurn, closed, kept, counted, received, fed, most, possible, row1Later, row20, feed}
+use Rattle.parts.specs.Parts.{Known, Going, Status, Stage, stage, Turn, stored, stepTurn, recordTurn, lineTurn, afterTurn, closed, kept, counted, received, fed, most, possible, row1Later, row20, feed, lastly, conclude}
 use Rattle.parts.specs.Parts.Status.{going, halted}
 use Rattle.parts.specs.Parts.Turn.{halt, next}
 
@@ -71,12 +71,12 @@ over-window base a l (x ∷ xs) h =
 
 -- ---- a turn
 
--- buffers keep their lengths, and the numbers grow by one record, with at most n cells
+-- buffers keep their lengths, and the numbers grow by at most the n characters of the line
 pub record Kept (n : ℕ) (k k′ : Known) (memory memory′ marks marks′ : List ℕ) : Type 0 where
   pub memory-long : length memory′ ≡ length memory
   pub marks-long : length marks′ ≡ length marks
-  pub number : k′ .state .number ≤ suc (k .state .number)
-  pub records : k′ .state .records ≤ suc (k .state .records)
+  pub number : k′ .state .number ≤ k .state .number + n
+  pub records : k′ .state .records ≤ k .state .records + n
   pub cells : k′ .state .cells ≤ k .state .cells + n
 
 -- a refusal has a reason
@@ -86,7 +86,7 @@ TurnKeeps n k memory marks (next k′ memory′ marks′) = Kept n k k′ memory
 
 module _ (k : Known) (memory marks : List ℕ) (same : length memory ≡ length marks) (base place : ℕ) where
   -- a record that has room, or is refused
-  stored-keeps : (n : ℕ) (u : State) (a : ℕ) (ds : List ℕ) → u .number ≤ suc (k .state .number) → u .records ≤ suc (k .state .records)
+  stored-keeps : (n : ℕ) (u : State) (a : ℕ) (ds : List ℕ) → u .number ≤ k .state .number + n → u .records ≤ k .state .records + n
       → u .cells ≤ k .state .cells + n → (m : ℕ) → TurnKeeps n k memory marks (stored base m place memory marks u a ds)
   unfolding stored claimed
   stored-keeps n u a ds x y z m =
@@ -101,13 +101,13 @@ module _ (k : Known) (memory marks : List ℕ) (same : length memory ≡ length 
       (λ t. rw t (let z = eqb-false (claimRow base marks a (length ds)) 0 t in omega (arith, z)))
 
   -- what a step comes to
-  step-keeps : (n : ℕ) (x : Step) → ((a : ℕ) (ds : List ℕ) → x ≡ put a ds → length ds ≤ n) → ((f : _) → x ≡ refuse f → 0 < f .reason)
+  step-keeps : (n : ℕ) → 0 < n → (x : Step) → ((a : ℕ) (ds : List ℕ) → x ≡ put a ds → length ds ≤ n) → ((f : _) → x ≡ refuse f → 0 < f .reason)
       → TurnKeeps n k memory marks (stepTurn base place memory marks (k .state) x)
-  step-keeps n (refuse f) h r = r f refl
-  step-keeps n skip h r = record { memory-long = refl; marks-long = refl; number = omega arith; records = omega arith; cells = omega arith }
-  step-keeps n (title t) h r = record { memory-long = refl; marks-long = refl; number = omega arith; records = omega arith; cells = omega arith }
-  step-keeps n (put a ds) h r = stored-keeps n _ a ds (omega arith) (omega arith) (omega (arith, h a ds refl)) (suc (k .state .number))
-  step-keeps n (finish e) h r = record { memory-long = refl; marks-long = refl; number = omega arith; records = omega arith; cells = omega arith }
+  step-keeps n long (refuse f) h r = r f refl
+  step-keeps n long skip h r = record { memory-long = refl; marks-long = refl; number = omega arith; records = omega arith; cells = omega arith }
+  step-keeps n long (title t) h r = record { memory-long = refl; marks-long = refl; number = omega arith; records = omega arith; cells = omega arith }
+  step-keeps n long (put a ds) h r = stored-keeps n _ a ds (omega arith) (omega arith) (omega (arith, h a ds refl)) (suc (k .state .number))
+  step-keeps n long (finish e) h r = record { memory-long = refl; marks-long = refl; number = omega arith; records = omega arith; cells = omega arith }
 
   -- what a line comes to
   pub line-keeps : (chars : List ℕ) → TurnKeeps (length chars) k memory marks (lineTurn base place chars memory marks k)
@@ -118,7 +118,7 @@ module _ (k : Known) (memory marks : List ℕ) (same : length memory ≡ length 
       go (some e) = lit< tt
       go none =
           let g = step-grows (k .state) (c ∷ cs) in
-          step-keeps (length (c ∷ cs)) (srec .step (k .state) (c ∷ cs)) (λ a ds q. subst (StepGrows (c ∷ cs)) q g)
+          step-keeps (length (c ∷ cs)) (omega arith) (srec .step (k .state) (c ∷ cs)) (λ a ds q. subst (StepGrows (c ∷ cs)) q g)
           (λ f q. subst (StepGrows (c ∷ cs)) q g)
 
 -- ---- stages
@@ -178,6 +178,32 @@ module _ (base room : ℕ) (g : Going) (memory marks : List ℕ) (s : Sound base
         cells = s .cells;
       }
 
+-- the end of a load that is under way
+module _ (base : ℕ) (g : Going) (memory marks : List ℕ) (s : Sound base g memory marks 0) where
+  -- behind the last record
+  last-sound : (t : Turn) → TurnKeeps (length (g .held)) (g .known) memory marks t → SoundAt base 0 (conclude (afterTurn g memory marks t))
+  last-sound (halt f) h = tt
+  last-sound (next k m′ k′) h = go (k .entry)
+    where
+      go : (e : Option Entry) → SoundAt base 0 (lastly (record { size = g .size; total = g .total; known = k; place = g .total; held = [] }) m′ k′ e)
+      go none = tt
+      go (some e) =
+          record {
+            memory-long = h .memory-long ∙ s .memory-long;
+            marks-long = h .marks-long ∙ s .marks-long;
+            reach = s .reach;
+            few = s .few;
+            begins = omega arith;
+            number = omega (arith, h .number, s .number, s .begins);
+            records = omega (arith, h .records, s .records, s .begins);
+            cells = omega (arith, h .cells, s .cells, s .begins);
+          }
+
+  pub end-sound : SoundAt base 0 (conclude (closed base g memory marks))
+  end-sound =
+      last-sound (lineTurn base (g .place) (g .held) memory marks (g .known))
+      (line-keeps (g .known) memory marks (s .memory-long ∙ sym (s .marks-long)) base (g .place) (g .held))
+
 -- a character leaves a sound stage sound
 received-sound : (base room : ℕ) (x : Status) (memory marks : List ℕ) (c : ℕ) → SoundIn base (suc room) x memory marks
     → SoundAt base room (received base x memory marks c)
@@ -214,19 +240,27 @@ possible-inv g e =
       leb-true (g .known .state .cells) (g .place) (d .1),
     )
 
--- neither row 1 nor row 20 in a call on a sound stage
-pub sound-allowed : (base room : ℕ) (g : Going) (memory marks : List ℕ) → Sound base g memory marks room
-    → row1Later (windowOf base memory marks) g ≡ false
-unfolding row1Later possible
-sound-allowed base room g memory marks s =
+-- the state of a sound stage is a possible one
+pub sound-possible : (base room : ℕ) (g : Going) (memory marks : List ℕ) → Sound base g memory marks room → possible g ≡ true
+unfolding possible
+sound-possible base room g memory marks s =
     rw (
-      allowed-is (windowOf base memory marks) (s .marks-long ∙ sym (s .memory-long)) (omega (arith, s .memory-long, s .reach)),
-      eq-eqb (length memory) (g .size) (s .memory-long),
       le-leb (g .total) most (omega (arith, s .few)),
       le-leb (g .place + length (g .held)) (g .total) (s .begins),
       le-leb (g .known .state .number) (g .place) (s .number),
       le-leb (g .known .state .records) (g .place) (s .records),
       le-leb (g .known .state .cells) (g .place) (s .cells),
+    )
+
+-- neither row 1 nor row 20 in a call on a sound stage
+pub sound-allowed : (base room : ℕ) (g : Going) (memory marks : List ℕ) → Sound base g memory marks room
+    → row1Later (windowOf base memory marks) g ≡ false
+unfolding row1Later
+sound-allowed base room g memory marks s =
+    rw (
+      allowed-is (windowOf base memory marks) (s .marks-long ∙ sym (s .memory-long)) (omega (arith, s .memory-long, s .reach)),
+      eq-eqb (length memory) (g .size) (s .memory-long),
+      sound-possible base room g memory marks s,
     )
 
 -- and where row 1 does not refuse a call, the stage is sound

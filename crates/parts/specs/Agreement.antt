@@ -1,7 +1,8 @@
 -- "The end answers as the whole text loaded at once, however cut" (Req 05). The proofs are in proofs/Agreement.antt.
 use mathlib.Core.Path.{_≡_}
 use Prim.Native.Nat.{ℕ, suc, _-_, _≤_}
-use mathlib.Core.Bool.{cond, false}
+use mathlib.Core.Bool.{cond, false, not, _||_}
+use lib.Dec.{eqb}
 use mathlib.Core.List.{List, [], _∷_, _++_}
 use lib.ListN.{length}
 use Rattle.lists.specs.Lists.{over}
@@ -19,7 +20,7 @@ use Rattle.text.specs.Load.{load, loadAnswer, memoryAfter, marksAfter}
 use Rattle.text.specs.Terms.{dataRecords}
 use Rattle.srec.specs.Lines.{isEnd}
 use Rattle.srec.specs.Formats.{srec}
-use Rattle.parts.specs.Parts.{Going, Stage, stage, fed, most, begun, row1Later, feed, end, answered}
+use Rattle.parts.specs.Parts.{Going, Status, Stage, stage, fed, most, begun, row1Later, feedIn, feed, endIn, end, answered}
 use Rattle.parts.specs.Parts.Status.{going, halted}
 
 -- ---- a load in parts
@@ -69,7 +70,7 @@ laid base memory (r ∷ rs) = laid base (over memory (r .addr - base) (r .bytes)
 
 -- where a text was cut by its refusal: at the record it names; at the end, behind all records (row 14); before all of them (row 1)
 pub data Cut (f : Refusal) (before rest : List Line) : Type 0 where
-  at-record : f .ordinal ≡ suc (length before) → Cut f before rest
+  at-record : f .ordinal ≡ suc (length before) → (f .reason ≡ 14 → ⊥) → Cut f before rest
   at-end : f .reason ≡ 14 → rest ≡ [] → Cut f before rest
   at-begin : f .reason ≡ 1 → before ≡ [] → Cut f before rest
 
@@ -103,6 +104,17 @@ Short-agrees = (W : Window) (ps : List (List ℕ)) → length (joined ps) ≤ mo
 -- characters that arrive one part after the other arrive at once
 abbrev pub Parts-at-once : Type 0
 Parts-at-once = (base : ℕ) (w : Stage) (xs ys : List ℕ) → fed base (fed base w xs) ys ≡ fed base w (xs ++ ys)
+
+-- a state that goes on is refused by row 1, whatever window is lent next, for that window and its length alone
+abbrev pub AsLent : Status → Type 0
+AsLent (going g) = (W : Window) → row1Later W g ≡ (row1 W || not (eqb (length (W .memory)) (g .size)))
+AsLent (halted f) = Unit {0}
+
+-- so it is with every state that a call gives out, whatever state it was given
+pub record Given-out : Type 0 where
+  pub by-begin : (W : Window) → AsLent (begun W .status)
+  pub by-feed : (x : Status) (W : Window) (part : List ℕ) → AsLent (feedIn x W part .status)
+  pub by-end : (x : Status) (W : Window) → AsLent (endIn x W .status)
 
 -- row 1 does not refuse a state and buffers that come back as given out
 abbrev pub Given-out-goes-on : Type 0

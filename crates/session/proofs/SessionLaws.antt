@@ -1,11 +1,10 @@
 -- What a state shows: a refusal, a load that goes on, its header; and how a load begins.
-use mathlib.Core.Path.{_≡_, refl, sym, ap, _∙_}
-use Prim.Native.Nat.{ℕ, _-_, _≤_, _<_, min}
+use mathlib.Core.Path.{_≡_, sym, ap, _∙_}
+use Prim.Native.Nat.{ℕ, _-_, _<_, min}
 use native.Mathlib.Omega.{arith}
 use mathlib.Core.Bool.{Bool, true, false, not}
-use mathlib.Core.List.{List, [], _++_}
+use mathlib.Core.List.{List, _++_}
 use mathlib.Core.Option.{none}
-use lib.Dec.{lit<}
 use lib.ListN.{length, take, drop, replicate}
 use lib.Seq.{length-take-le}
 use borrow.Author.Tests.{eq-eqb, ne-eqb, not-false, not-true}
@@ -15,7 +14,7 @@ use Rattle.window.specs.Plans.{refusal}
 use Rattle.text.specs.Scan.{start}
 use Rattle.text.specs.Load.{headerOf}
 use Rattle.storing.proofs.HeaderLaws.{zeros, padding}
-use Rattle.parts.specs.Parts.{Stage, stage, stopped, begun}
+use Rattle.parts.specs.Parts.{stage, stopped, begun}
 use Rattle.parts.specs.Parts.Status.{going, halted}
 use Rattle.parts.specs.Stretches.{fresh}
 use Rattle.session.specs.declared.Session.{Session}

@@ -1,5 +1,5 @@
 -- `settle` meets its contract: a refusal, or the characters behind the last line end are kept.
-use mathlib.Core.Path.{_≡_, ap, _∙_}
+use mathlib.Core.Path.{ap, _∙_}
 use Prim.Native.Nat.{ℕ, _≤_}
 use native.Mathlib.Omega.{arith}
 use lib.ListN.{length}

@@ -1,18 +1,16 @@
 -- `take_lines` meets its contract. The loop's invariant: what is left of the part comes to what all of it comes to.
 -- Each way out and the way round is one law of LoopLaws.
-use mathlib.Core.Path.{_≡_, refl, sym, ap, _∙_, subst}
+use mathlib.Core.Path.{_≡_, refl, sym, ap, _∙_}
 use Prim.Native.Nat.{ℕ, _+_, _-_}
 use native.Mathlib.Omega.{arith}
-use mathlib.Core.List.{List}
 use lib.ListN.{length, drop}
 use Rattle.lists.proofs.PartLaws.{rest, part-long}
 use Rattle.text.specs.Finds.{leading}
 use Rattle.srec.specs.Lines.{isEnd}
-use Rattle.parts.specs.Parts.{Stage, stage, fed}
+use Rattle.parts.specs.Parts.{stage, fed}
 use Rattle.parts.specs.Parts.Status.{going}
 use Rattle.parts.specs.Stretches.{fresh}
-use Rattle.intake.specs.declared.Turn.{Turn}
-use Rattle.intake.specs.Tallies.{knownOf, Took}
+use Rattle.intake.specs.Tallies.{knownOf}
 use Rattle.intake.specs.Takes.{beginOf}
 use Rattle.feed.proofs.TurnLaws.{took-refused, took-next, stopped-as}
 use Rattle.feed.proofs.LoopLaws.{IsNext, line-next, Taking, roomy, left-open, number-fits, line-halts, line-reason, line-goes}

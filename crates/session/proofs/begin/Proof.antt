@@ -1,10 +1,9 @@
 -- `begin` meets its contract: row 1, or a load that has begun.
 use mathlib.Core.Path.{sym, ap, _∙_}
-use native.Mathlib.Omega.{arith}
 use lib.Dec.{lit<}
 use Rattle.window.specs.Windows.{windowOf}
 use Rattle.parts.specs.Parts.{Stage}
-use Rattle.session.proofs.SessionLaws.{shows-going, begin-refused, begin-allowed}
+use Rattle.session.proofs.SessionLaws.{begin-refused, begin-allowed}
 use borrow.Author.Needs.{needs}
 use Rattle.session.proofs.begin.Statement.{statement}
 use Rattle.session.proofs.begin.Tie as tie

@@ -1,8 +1,5 @@
 -- `keep` meets its contract: the characters are held behind those that were.
-use mathlib.Core.Path.{refl, ap}
-use mathlib.Core.List.{List}
-use Rattle.intake.specs.Tallies.{knownOf}
-use Rattle.parts.specs.Parts.{Going}
+use mathlib.Core.Path.{refl}
 use borrow.Author.Needs.{needs}
 use Rattle.session.proofs.keep.Statement.{statement}
 use Rattle.session.proofs.keep.Tie as tie
