@@ -113,12 +113,7 @@ fn settle(session: Session, header: [u8; 252], rest: Rest, part: &[u8], marks: &
     match rest {
         Rest::Refused(refusal) => return session::halt(session, refusal, marks),
         Rest::From(from, tally) => {
-            let mut s = session;
-            s.place = session.total + from;
-            s.total = session.total + from;
-            s.tally = tally;
-            s.header = header;
-            s.held = 0;
+            let s = session::next_record(session, session.total + from, tally, header);
             return session::keep(s, &part[from..]);
         }
     }
@@ -244,12 +239,7 @@ fn finish(session: Session, base: u32, memory: &mut [u8], marks: &mut [u8]) -> S
                 let state = last.state;
                 return session::halt(session, window::refuse(14, state.number, total), marks);
             }
-            let mut s = session;
-            s.place = total;
-            s.tally = last;
-            s.header = header;
-            s.held = 0;
-            return s;
+            return session::next_record(session, total, last, header);
         }
     }
 }

@@ -11,7 +11,8 @@ ghost use Rattle.window.specs.Windows.{windowOf};
 ghost use Rattle.text.specs.Load.{headerOf};
 ghost use Rattle.parts.specs.Parts.{begun, possible, row1Later, answered};
 ghost use Rattle.parts.specs.Parts.Status.{halted};
-ghost use Rattle.parts.specs.Stretches.{keptAll};
+ghost use Rattle.parts.specs.Stretches.{fresh, keptAll};
+ghost use Rattle.intake.specs.Tallies.{knownOf};
 ghost use Rattle.session.specs.Sessions.{goingOf, statusOf};
 
 // The most characters that a load in parts takes.
@@ -60,6 +61,19 @@ pub fn keep(session: Session, chars: &[u8]) -> Session
     s.total = s.total + chars.len();
     s.held = held;
     s.line = line;
+    s
+}
+
+// The state where the next record begins, behind so many characters, with the records before it and their header.
+pub fn next_record(session: Session, total: usize, tally: Tally, header: [u8; 252]) -> Session
+    ensures { λ r. ⌜ (r .refusal ≡ session .refusal) × (goingOf r ≡ fresh (session .size) total (knownOf tally header)) ⌝ }
+{
+    let mut s = session;
+    s.total = total;
+    s.place = total;
+    s.tally = tally;
+    s.header = header;
+    s.held = 0;
     s
 }
 

@@ -7,14 +7,16 @@ use mathlib.Core.List.{List}
 use lib.Dec.{lit<}
 use lib.ListN.{length, take, replicate}
 use lib.Seq.{length-take-le}
-use borrow.Author.Tests.{eq-eqb, not-true, not-false}
+use borrow.Author.Tests.{not-true, not-false}
+use Rattle.window.specs.declared.Refusal.{Refusal}
 use Rattle.window.specs.Windows.{windowOf}
 use Rattle.parts.specs.Parts.{lineTurn, row1Later}
-use Rattle.parts.specs.Parts.Status.{halted}
+use Rattle.parts.specs.Parts.Status.{going, halted}
 use Rattle.parts.specs.Parts.Turn.{next}
 use Rattle.intake.specs.declared.Tally.{Tally}
 use Rattle.intake.specs.Tallies.{knownOf}
 use Rattle.session.specs.Sessions.{goingOf}
+use Rattle.session.proofs.SessionLaws.{shows-going}
 use Rattle.feed.proofs.TurnLaws.{took-refused, took-next}
 use Rattle.feed.proofs.CallLaws.{shows}
 use Rattle.feed.proofs.EndLaws.{end-refused, end-barred, Closing, same-length, last-roomy, last-halts, last-reason, last-open, last-ended}
@@ -163,11 +165,14 @@ returns-4 c =
 
 returns-5 : tie.Need-returns-5
 returns-5 c =
-    let at-turn = last (c .before) in
+    let t = c .before in
+    let at-turn = last (t .before) in
     let k = taken (at-turn .before .before) in
+    let n = c .next-record in
+    let z = going-on (own (counted k) .before) .if1 .left in
     shows (last-ended (closing (counted k)) (tally at-turn) (header at-turn) (memory at-turn) (marks at-turn) (took at-turn)
-    (not-false (tally at-turn .ended) (c .if3 .left)))
-    (let e = own (counted k) in rw (eq-eqb (call (e .before) .args .session .refusal .reason) 0 (going-on (e .before) .if1 .left))) refl refl
+    (not-false (tally at-turn .ended) (t .if3 .left)))
+    (shows-going (n .result) (ap (λ (f : Refusal). f .reason) (n .ensures .0) ∙ z) ∙ ap going (n .ensures .1)) refl refl
 
 pub finish-spec : {M : Type 1} → statement M
 finish-spec =
@@ -197,6 +202,7 @@ finish-spec =
     same-length-5
     (λ c. search needs)
     returns-4
+    (λ c κs. search needs)
     (λ c. search needs)
     (λ c. search needs)
     returns-5)

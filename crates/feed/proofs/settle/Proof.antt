@@ -1,10 +1,12 @@
 -- `settle` meets its contract: a refusal, or the characters behind the last line end are kept.
 use mathlib.Core.Path.{ap, _∙_}
-use Prim.Native.Nat.{ℕ, _≤_}
+use Prim.Native.Nat.{ℕ, _-_, _≤_}
 use native.Mathlib.Omega.{arith}
-use lib.ListN.{length}
+use lib.ListN.{length, take, drop}
 use Rattle.lists.proofs.PartLaws.{part-long}
 use Rattle.window.specs.declared.Refusal.{Refusal}
+use Rattle.parts.specs.Parts.{Going}
+use Rattle.parts.specs.Stretches.{keptAll}
 use Rattle.feed.proofs.SettleLaws.{rest-reason, rest-inside, settled-refused, settled-from}
 use borrow.Author.Needs.{needs}
 use Rattle.feed.proofs.settle.Statement.{statement}
@@ -38,30 +40,39 @@ returns c =
     settled-refused (a .session .size) (a .session .total) (a .header) (a .part .now) (a .marks .now) (a .rest) _ (at-rest .rest .given .1) _ _
     (at-halt .halt .ensures .0) (at-halt .halt .ensures .1)
 
-add-s : tie.Need-add-s
-add-s c = let j = c .before .before in record { fits = omega (arith, inside j, own j .pre .1) }
+add-next-record : tie.Need-add-next-record
+add-next-record c = let j = c .before .before in record { fits = omega (arith, inside j, own j .pre .1) }
 
-add-s-2 : tie.Need-add-s-2
-add-s-2 c = let j = c .before .before .before in record { fits = omega (arith, inside j, own j .pre .1) }
+-- the state where the next record begins
+abbrev begun : tie.After-next-record → tie.After-rest2
+begun c = c .before .before .before
 
 sub-keep : tie.Need-sub-keep
-sub-keep c = inside (c .before .before .before)
+sub-keep c = inside (begun c)
 
 part-keep-start : tie.Need-part-keep-start
-part-keep-start c = inside (c .before .before .before)
+part-keep-start c = inside (begun c)
 
 keep-requires : tie.Need-keep-requires
 keep-requires c κs =
-    let j = c .before .before .before .before in
+    let j = begun (c .before) in
     let l = own j .args .part .now in
-    omega (arith, inside j, own j .pre .1, part-long l (from j) (length l) (inside j) (omega arith))
+    omega (
+      arith,
+      inside j,
+      own j .pre .1,
+      part-long l (from j) (length l) (inside j) (omega arith),
+      ap (λ (g : Going). g .total) (c .before .next-record .ensures .1),
+    )
 
 returns-2 : tie.Need-returns-2
 returns-2 c =
-    let j = c .before .before .before .before .before in
+    let n = c .before .before in
+    let j = begun n in
     let a = own j .args in
     settled-from (a .session .size) (a .session .total) (a .header) (a .part .now) (a .marks .now) (a .rest) (from j) _ (j .rest2 .given .1)
-    (c .keep .result) (ap (λ (f : Refusal). f .reason) (c .keep .ensures .0) ∙ own j .pre .0) (c .keep .ensures .1)
+    (c .keep .result) (ap (λ (f : Refusal). f .reason) (c .keep .ensures .0 ∙ n .next-record .ensures .0) ∙ own j .pre .0)
+    (c .keep .ensures .1 ∙ ap (λ (g : Going). keptAll g (take (length (a .part .now) - from j) (drop (from j) (a .part .now)))) (n .next-record .ensures .1))
 
 pub settle-spec : {M : Type 1} → statement M
 settle-spec =
@@ -72,8 +83,8 @@ settle-spec =
     (λ c. search needs)
     returns
     (λ c. search needs)
-    add-s
-    add-s-2
+    add-next-record
+    (λ c κs. search needs)
     sub-keep
     part-keep-start
     (λ c. search needs)
