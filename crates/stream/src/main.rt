@@ -2,7 +2,9 @@
 // standard output, for a window of 65,536 cells from address 0.
 use libc::STDIN_FILENO;
 use libc::STDOUT_FILENO;
+use session::Session;
 use window::Loaded;
+ghost use Prim.Native.Nat.{_<_};
 
 // The characters of a part, and so many full parts that row 20 refuses the last of them at the latest.
 const PART: usize = 65536;
@@ -23,8 +25,20 @@ const ROWS: usize = CELLS / 16;
 
 const ROOM: usize = 11 + 2 * MOST_HEADER + ROWS * (8 * 15 + 2 * 9) + 11 + 15;
 
-// Loads standard input part by part. A part that is not full is the last one, and behind a refusal nothing is read any more. The count
-// of parts ends no load: after so many row 20 has refused it.
+// How many parts can still come behind one of n characters: none where that was not full, since the input ends there, and none behind a
+// refusal.
+fn parts_left(left: usize, n: usize, session: Session) -> usize
+    requires { ⌜ 0 < left ⌝ }
+    ensures { λ r. ⌜ r < left ⌝ }
+{
+    let refusal = session.refusal;
+    if n < PART || refusal.reason != 0 {
+        return 0;
+    }
+    left - 1
+}
+
+// Loads standard input part by part. The count of parts ends no load that goes on: behind so many full ones row 20 has refused it.
 fn load_input(memory: &mut [u8], marks: &mut [u8]) -> Loaded {
     let mut part = [0u8; PART];
     let mut session = session::begin(BASE, memory, marks);
@@ -32,11 +46,7 @@ fn load_input(memory: &mut [u8], marks: &mut [u8]) -> Loaded {
     while left > 0 {
         let n = io::read_full(STDIN_FILENO, &mut part);
         session = feed::feed(session, &part[..n], BASE, memory, marks);
-        let refusal = session.refusal;
-        if n < PART || refusal.reason != 0 {
-            break;
-        }
-        left -= 1;
+        left = parts_left(left, n, session);
     }
     let ended = feed::end(session, BASE, memory, marks);
     ended.loaded
@@ -47,8 +57,9 @@ fn print_text(loaded: Loaded, memory: &[u8], marks: &[u8]) {
     let header = loaded.header;
     let bytes = header.bytes;
     let len = marks::smaller(header.len, MOST_HEADER);
+    let entry = loaded.entry;
     let mut out = [0u8; ROOM];
-    let written = srec_write::write(BASE, memory, marks, &bytes[..len], loaded.entry, &mut out);
+    let written = srec_write::write(BASE, memory, marks, &bytes[..len], entry, &mut out);
     let refusal = written.refusal;
     if refusal.reason != 0 {
         report::print_refusal(refusal);
