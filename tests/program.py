@@ -75,9 +75,10 @@ def cases():
     yield from limits()
 
 
-def main():
+def compare(cases):
+    """Says of which cases something else is printed than expected, and how many passed; the exit status."""
     passed = failed = 0
-    for name, printed, expected in cases():
+    for name, printed, expected in cases:
         if printed == expected:
             passed += 1
         else:
@@ -88,4 +89,4 @@ def main():
 
 
 if __name__ == "__main__":
-    sys.exit(main())
+    sys.exit(compare(cases()))
