@@ -293,12 +293,13 @@ int main(int argc, char **argv)
         print_lines(quick, rounds);
         return 0;
     }
-    printf("Minimum of %ld rounds, of %ld below %d MiB and for refusals, small loads and tapes.\n\n", rounds,
+    printf("Minimum of %ld rounds, of %ld below %d MiB and for refusals, small loads, tapes and parts.\n\n", rounds,
            MORE * rounds, SMALL);
     compare(quick, rounds);
     grow(quick, rounds);
     refusals(quick, rounds);
     small_loads(rounds);
     tapes(rounds);
+    parts(quick, rounds);
     return 0;
 }

@@ -56,4 +56,7 @@ void small_loads(long rounds);
 /* tapes.c: the library's tapes beside its S-records. */
 void tapes(long rounds);
 
+/* parts.c: the library's loads in parts beside its loads at once. */
+void parts(int quick, long rounds);
+
 #endif

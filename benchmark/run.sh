@@ -1,11 +1,14 @@
 #!/bin/sh
 # run.sh [--places] [--quick] [ROUNDS]: compiles the library's twins and compares them with it. See README.md here.
-# If there is no libcapi.a, 'rt staticlib capi' makes it. SREC_LIB_DIR names another folder that has one.
+# If there is no libcapi.a or libcuts.a, 'rt staticlib' makes it. SREC_LIB_DIR names another folder that has both.
 set -eu
 root=$(cd "$(dirname "$0")/.." && pwd)
-library=${SREC_LIB_DIR:-$root/target/staticlib}/libcapi.a
-[ -f "$library" ] || [ -n "${SREC_LIB_DIR:-}" ] || (cd "$root" && rt staticlib capi >&2)
-[ -f "$library" ] || { echo "$library is missing" >&2; exit 2; }
+folder=${SREC_LIB_DIR:-$root/target/staticlib}
+library=$folder/libcapi.a cuts=$folder/libcuts.a
+for name in capi cuts; do
+    [ -f "$folder/lib$name.a" ] || [ -n "${SREC_LIB_DIR:-}" ] || (cd "$root" && rt staticlib "$name" >&2)
+    [ -f "$folder/lib$name.a" ] || { echo "$folder/lib$name.a is missing" >&2; exit 2; }
+done
 bin=$(mktemp -d)
 trap 'rm -rf "$bin"' EXIT
 trap 'exit 2' HUP INT TERM
@@ -29,7 +32,7 @@ address() { # PLACE: where srec_load is
 # Links $bin/compareN with N bytes of padding before the library's code. The twins stand before it and do not move.
 link_place() { # N
     printf '.text\n.balign 16\n.org %s\n.section .note.GNU-stack,"",@progbits\n' "$1" >"$bin/padding.s"
-    gcc "$bin"/*.o "$bin/padding.s" "$library" -o "$bin/compare$1"
+    gcc "$bin"/*.o "$bin/padding.s" "$library" "$cuts" -o "$bin/compare$1"
     [ $(($(address "$1") - $(address 0))) -eq "$1" ] || { echo "srec_load did not move by $1 bytes" >&2; exit 2; }
 }
 
@@ -92,6 +95,7 @@ compile generate generate
 compile programs programs
 compile loads loads
 compile tapes tapes
+compile parts parts
 compile compare compare
 
 gcc --version | head -n 1
@@ -99,6 +103,6 @@ if [ "${1:-}" = --places ]; then
     shift
     compare_places "$@"
 else
-    gcc "$bin"/*.o "$library" -o "$bin/compare"
+    gcc "$bin"/*.o "$library" "$cuts" -o "$bin/compare"
     "$bin/compare" "$@"
 fi
