@@ -4,8 +4,10 @@
 //! those of MOS Technology tapes. `parts` is a load of S-records in parts, a
 //! program of its own. `cases` draws texts, windows and images that reach every
 //! row of the refusal table, from the numbers of `random`. `script` has cases
-//! and answers in the form of the program `vectors`.
+//! and answers in the form of the program `vectors`, and `calls` in that of the
+//! program `calls`.
 
+pub mod calls;
 pub mod cases;
 pub mod parts;
 pub mod random;

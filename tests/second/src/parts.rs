@@ -12,18 +12,24 @@ pub const MOST: usize = 4_294_967_295;
 /// The most characters that a record can have.
 const LONGEST: usize = 514;
 
+/// The most characters of a record that are kept: so many are too many.
+const KEPT: usize = LONGEST + 1;
+
 /// What is kept between the calls of a load.
 #[derive(Clone, Debug, PartialEq, Eq)]
 pub struct State {
-    /// The lengths of memory and marks at the beginning.
-    lengths: (usize, usize),
-    /// How many characters were read.
+    /// The length of the memory at the beginning.
+    size: usize,
+    /// How many characters arrived.
     total: usize,
-    /// The characters behind the last line end.
+    /// How many of them stand before the record at hand.
+    place: usize,
+    /// The record at hand, as far as it is kept.
     line: Vec<u8>,
     /// How many records were read, each of them at its line end.
     complete: usize,
-    header: Vec<u8>,
+    head: usize,
+    header: [u8; HEADER_ROOM],
     entry: Option<u32>,
     data_records: usize,
     /// The data bytes of all data records.
@@ -32,7 +38,74 @@ pub struct State {
     refusal: Option<Refusal>,
 }
 
+/// The numbers of a state that a caller could change.
+#[derive(Clone, Copy, Debug, PartialEq, Eq)]
+pub enum Number {
+    Total,
+    Place,
+    /// How many characters of the record at hand are kept.
+    Held,
+    Complete,
+    Records,
+    Cells,
+    /// The length of the header.
+    Head,
+    Size,
+    /// The refusal number.
+    Reason,
+}
+
 impl State {
+    pub fn refusal(&self) -> Option<Refusal> {
+        self.refusal
+    }
+
+    pub fn entry(&self) -> Option<u32> {
+        self.entry
+    }
+
+    pub fn number(&self, number: Number) -> usize {
+        match number {
+            Number::Total => self.total,
+            Number::Place => self.place,
+            Number::Held => self.line.len(),
+            Number::Complete => self.complete,
+            Number::Records => self.data_records,
+            Number::Cells => self.cells,
+            Number::Head => self.head,
+            Number::Size => self.size,
+            Number::Reason => self.refusal.map_or(0, |refusal| refusal.number as usize),
+        }
+    }
+
+    /// Overwrites a number. No rule says which characters are kept behind those
+    /// of the record at hand: here they are zero.
+    pub fn set(&mut self, number: Number, value: usize) {
+        match number {
+            Number::Total => self.total = value,
+            Number::Place => self.place = value,
+            Number::Held => self.line.resize(value, 0),
+            Number::Complete => self.complete = value,
+            Number::Records => self.data_records = value,
+            Number::Cells => self.cells = value,
+            Number::Head => self.head = value,
+            Number::Size => self.size = value,
+            Number::Reason => {
+                let before = self.refusal.unwrap_or_default();
+                let number = value as u32;
+                self.refusal = (number != 0).then_some(Refusal { number, ..before });
+            }
+        }
+    }
+
+    /// No call gives such numbers out.
+    fn impossible(&self) -> bool {
+        let read = [self.complete, self.data_records, self.cells];
+        read.iter().any(|&number| number > self.place)
+            || self.place + self.line.len() > self.total
+            || self.total > MOST
+    }
+
     /// The state as it is once so many line ends more were fed, behind a line
     /// end or at the beginning. Row 20 can be tested with it: nobody lends parts
     /// of that length.
@@ -40,6 +113,7 @@ impl State {
         assert!(self.line.is_empty() && self.refusal.is_none());
         assert!(number <= MOST - self.total);
         self.total += number;
+        self.place += number;
         self
     }
 }
@@ -54,11 +128,13 @@ struct Lent<'a> {
 /// Begins a load. The marks are zero then, whatever they held.
 pub fn begin(base: u32, memory: &mut [u8], marks: &mut [u8]) -> State {
     let mut state = State {
-        lengths: (memory.len(), marks.len()),
+        size: memory.len(),
         total: 0,
+        place: 0,
         line: Vec::new(),
         complete: 0,
-        header: Vec::new(),
+        head: 0,
+        header: [0; HEADER_ROOM],
         entry: None,
         data_records: 0,
         cells: 0,
@@ -98,8 +174,9 @@ pub fn feed(
     state
 }
 
-/// Ends a load and gives its answer. A last record needs no line end.
-pub fn end(mut state: State, base: u32, memory: &mut [u8], marks: &mut [u8]) -> Loaded {
+/// Ends a load and gives its answer, and the state behind it. A last record
+/// needs no line end.
+pub fn end(mut state: State, base: u32, memory: &mut [u8], marks: &mut [u8]) -> (Loaded, State) {
     let lent = &mut Lent {
         base,
         memory,
@@ -112,7 +189,7 @@ pub fn end(mut state: State, base: u32, memory: &mut [u8], marks: &mut [u8]) -> 
     if state.entry.is_none() {
         state.refuse(state.without_record(14), lent);
     }
-    state.answer()
+    (state.answer(), state)
 }
 
 impl State {
@@ -134,10 +211,12 @@ impl State {
         }
     }
 
-    /// The window is not allowed, or its lengths are not those of the beginning.
+    /// The window is not allowed, or its length is not that of the beginning, or
+    /// the state is none that was given out.
     fn ask_row_1(&mut self, lent: &mut Lent) {
-        let lengths = (lent.memory.len(), lent.marks.len());
-        if row_1(lent.base, lengths.0, lengths.1) || lengths != self.lengths {
+        let length = lent.memory.len();
+        let unfit = row_1(lent.base, length, lent.marks.len()) || length != self.size;
+        if unfit || self.impossible() {
             let refusal = Refusal {
                 number: 1,
                 ..Refusal::default()
@@ -148,27 +227,28 @@ impl State {
 
     /// The part is too long behind those before it.
     fn ask_row_20(&mut self, part: &[u8], lent: &mut Lent) {
-        if part.len() > MOST - self.total {
+        if self.refusal.is_none() && part.len() > MOST - self.total {
             self.refuse(self.without_record(20), lent);
         }
     }
 
     fn take(&mut self, character: u8, lent: &mut Lent) {
+        self.total += 1;
         if character == b'\r' || character == b'\n' {
             self.end_line(lent);
-        } else {
+        } else if self.line.len() < KEPT {
             self.line.push(character);
         }
-        self.total += 1;
     }
 
-    /// Reads the line at hand. An empty one is no record.
+    /// Reads the line at hand. An empty one is no record. The next one starts
+    /// behind all that arrived.
     fn end_line(&mut self, lent: &mut Lent) {
         let line = std::mem::take(&mut self.line);
+        let place = std::mem::replace(&mut self.place, self.total);
         if line.is_empty() {
             return;
         }
-        let place = self.total - line.len();
         match self.judge(&line, lent) {
             Ok(record) => self.accept(record, lent),
             Err(fault) => {
@@ -219,7 +299,10 @@ impl State {
     fn accept(&mut self, record: Record, lent: &mut Lent) {
         self.complete += 1;
         match record.kind {
-            b'0' => self.header = record.data,
+            b'0' => {
+                self.head = record.data.len();
+                self.header[..self.head].copy_from_slice(&record.data);
+            }
             b'7'..=b'9' => self.entry = Some(record.address as u32),
             b'1'..=b'3' => {
                 self.data_records += 1;
@@ -244,8 +327,8 @@ impl State {
             cells: 0,
         };
         if self.refusal.is_none() {
-            loaded.header_len = self.header.len();
-            loaded.header[..self.header.len()].copy_from_slice(&self.header);
+            loaded.header_len = self.head;
+            loaded.header = self.header;
             loaded.entry = self.entry;
             loaded.records = self.data_records;
             loaded.cells = self.cells;

@@ -120,7 +120,7 @@ fn parse_case(script: &[u8]) -> Option<Case> {
     case.map(|case| case.of(format))
 }
 
-fn refusal_words(refusal: &Refusal) -> String {
+pub(crate) fn refusal_words(refusal: &Refusal) -> String {
     let Refusal {
         number,
         record,
@@ -136,7 +136,7 @@ fn entry_words(entry: Option<u32>) -> String {
 }
 
 /// Every field of the answer, the header without the zeros at its end.
-fn answer_line(loaded: &Loaded) -> String {
+pub(crate) fn answer_line(loaded: &Loaded) -> String {
     let end = loaded.header.iter().rposition(|&byte| byte != 0);
     let header = &loaded.header[..end.map_or(0, |last| last + 1)];
     let header: String = header.iter().map(|byte| format!("{byte:02x}")).collect();

@@ -41,7 +41,7 @@ impl PartsCase {
         for part in &self.parts {
             state = parts::feed(state, part, base, &mut memory, &mut marks);
         }
-        let loaded = parts::end(state, base, &mut memory, &mut marks);
+        let (loaded, _) = parts::end(state, base, &mut memory, &mut marks);
         (loaded, memory, marks)
     }
 }

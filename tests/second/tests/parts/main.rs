@@ -32,10 +32,10 @@ impl Bench {
         self.state = feed(state, part, self.base, &mut self.memory, &mut self.marks);
     }
 
-    /// The state stays with the caller.
+    /// The caller goes on with the state from before the end.
     fn end(&mut self) -> Loaded {
         let state = self.state.clone();
-        end(state, self.base, &mut self.memory, &mut self.marks)
+        end(state, self.base, &mut self.memory, &mut self.marks).0
     }
 }
 

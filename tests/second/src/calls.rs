@@ -1,0 +1,299 @@
+//! The form in which the program `calls` takes loads in parts and prints what
+//! they give: crates/calls/src/main.rt says which.
+
+use crate::parts::{begin, end, feed, Number, State};
+use crate::script::{answer_line, refusal_words, ROOM};
+use std::fmt::{self, Display, Formatter};
+
+/// What a case can do, in turn.
+#[derive(Clone, Copy, Debug, PartialEq, Eq)]
+pub enum Call {
+    Begin,
+    /// Feeds so many of the text's characters, or all that are left.
+    Feed(usize),
+    /// Feeds all that are left in parts of so many.
+    Rest(usize),
+    End,
+    Show,
+    /// Keeps the state.
+    Keep,
+    /// Goes on with the state that was kept.
+    Use,
+    /// Sets a mark.
+    Mark(usize, u8),
+    /// Lends so many cells and marks from here on.
+    Lend(usize, usize),
+    Base(u32),
+    /// Overwrites a number of the state.
+    Set(Number, usize),
+}
+
+/// The letters of the numbers of a state.
+pub const NUMBERS: [(char, Number); 9] = [
+    ('S', Number::Size),
+    ('T', Number::Total),
+    ('P', Number::Place),
+    ('H', Number::Held),
+    ('N', Number::Complete),
+    ('R', Number::Records),
+    ('C', Number::Cells),
+    ('L', Number::Head),
+    ('X', Number::Reason),
+];
+
+impl Display for Call {
+    fn fmt(&self, out: &mut Formatter) -> fmt::Result {
+        match *self {
+            Call::Begin => write!(out, "b"),
+            Call::Feed(number) => write!(out, "f{number:X}"),
+            Call::Rest(number) => write!(out, "r{number:X}"),
+            Call::End => write!(out, "e"),
+            Call::Show => write!(out, "p"),
+            Call::Keep => write!(out, "k"),
+            Call::Use => write!(out, "u"),
+            Call::Mark(index, mark) => write!(out, "m{index:X}:{mark:X}"),
+            Call::Lend(cells, marks) => write!(out, "l{cells:X}:{marks:X}"),
+            Call::Base(base) => write!(out, "a{base:X}"),
+            Call::Set(number, value) => {
+                let named = NUMBERS.iter().find(|(_, named)| *named == number);
+                let letter = named.map_or('?', |(letter, _)| *letter);
+                let (high, low) = (value >> 32, value & 0xFFFF_FFFF);
+                if high == 0 {
+                    write!(out, "{letter}{low:X}")
+                } else {
+                    write!(out, "{letter}{high:X}:{low:X}")
+                }
+            }
+        }
+    }
+}
+
+/// Up to eight hex digits.
+fn digits(word: &str) -> Option<usize> {
+    let short = word.len() <= 8;
+    usize::from_str_radix(word, 16).ok().filter(|_| short)
+}
+
+/// Two numbers with a colon between them.
+fn two(word: &str) -> Option<(usize, usize)> {
+    let (first, second) = word.split_once(':')?;
+    Some((digits(first)?, digits(second)?))
+}
+
+fn parse_call(word: &str) -> Option<Call> {
+    let letter = word.chars().next()?;
+    let rest = word.strip_prefix(letter)?;
+    let simple = match letter {
+        'b' => Some(Call::Begin),
+        'e' => Some(Call::End),
+        'p' => Some(Call::Show),
+        'k' => Some(Call::Keep),
+        'u' => Some(Call::Use),
+        _ => None,
+    };
+    if simple.is_some() {
+        return simple.filter(|_| rest.is_empty());
+    }
+    match letter {
+        'f' => Some(Call::Feed(digits(rest)?)),
+        'r' => Some(Call::Rest(digits(rest)?)),
+        'a' => Some(Call::Base(digits(rest)? as u32)),
+        'm' => two(rest).map(|(index, mark)| Call::Mark(index, mark as u8)),
+        'l' => two(rest).map(|(cells, marks)| Call::Lend(cells, marks)),
+        _ => {
+            let &(_, number) = NUMBERS.iter().find(|(named, _)| *named == letter)?;
+            let value = match two(rest) {
+                Some((high, low)) => (high << 32) + low,
+                None => digits(rest)?,
+            };
+            Some(Call::Set(number, value))
+        }
+    }
+}
+
+/// A text, the window that it is loaded into, and the calls.
+#[derive(Clone, Debug, PartialEq, Eq)]
+pub struct Case {
+    pub name: String,
+    pub base: u32,
+    pub cells: usize,
+    pub calls: Vec<Call>,
+    pub text: Vec<u8>,
+}
+
+impl Case {
+    fn heading(&self) -> String {
+        format!("@{:08X}:{:08X} {}\n", self.base, self.cells, self.name)
+    }
+
+    /// The case as `calls` reads it.
+    pub fn script(&self) -> Vec<u8> {
+        let words: Vec<String> = self.calls.iter().map(Call::to_string).collect();
+        let lines = self.heading() + &words.join(" ") + "\n";
+        [lines.as_bytes(), &self.text].concat()
+    }
+
+    /// Whether it can be handed over.
+    pub fn fits(&self) -> bool {
+        let lent = |call: &Call| match *call {
+            Call::Lend(cells, marks) => cells <= ROOM && marks <= ROOM,
+            Call::Mark(index, _) => index < ROOM,
+            _ => true,
+        };
+        self.cells <= ROOM
+            && self.calls.iter().all(lent)
+            && !self.text.contains(&b'@')
+            && self.script().len() <= ROOM
+    }
+
+    /// What `calls` has to print for it.
+    pub fn answer(&self) -> Vec<u8> {
+        let mut bench = Bench::new(self.base, self.cells);
+        let mut text = &self.text[..];
+        for call in &self.calls {
+            text = bench.call(*call, text);
+        }
+        (self.heading() + &bench.printed).into_bytes()
+    }
+}
+
+/// The cases of a whole input.
+pub fn parse(script: &[u8]) -> Option<Vec<Case>> {
+    let mut cases = script.split(|&c| c == b'@');
+    // Nothing stands before the first `@`.
+    cases.next().filter(|before| before.is_empty())?;
+    cases.map(parse_case).collect()
+}
+
+fn parse_case(script: &[u8]) -> Option<Case> {
+    let mut lines = script.splitn(3, |&c| c == b'\n');
+    let heading = std::str::from_utf8(lines.next()?).ok()?;
+    let words = std::str::from_utf8(lines.next()?).ok()?;
+    let text = lines.next()?.to_vec();
+    let (window, name) = heading.split_once(' ')?;
+    let (base, cells) = two(window)?;
+    let words = words.split(' ').filter(|word| !word.is_empty());
+    let case = Case {
+        name: name.to_string(),
+        base: base as u32,
+        cells,
+        calls: words.map(parse_call).collect::<Option<_>>()?,
+        text,
+    };
+    case.fits().then_some(case)
+}
+
+/// A load in parts, with all that is lent to it and what was printed.
+#[derive(Clone)]
+pub struct Bench {
+    pub state: State,
+    kept: State,
+    pub base: u32,
+    pub cells: usize,
+    pub marks_lent: usize,
+    memory: Vec<u8>,
+    marks: Vec<u8>,
+    /// The refusal number of each end.
+    pub ends: Vec<u32>,
+    printed: String,
+}
+
+impl Bench {
+    /// A load that is begun, in buffers that were used before.
+    pub fn new(base: u32, cells: usize) -> Bench {
+        let mut memory: Vec<u8> = (0..ROOM).map(|index| 0xE0 + index as u8 % 16).collect();
+        let mut marks = vec![7; ROOM];
+        let state = begin(base, &mut memory[..cells], &mut marks[..cells]);
+        Bench {
+            kept: state.clone(),
+            state,
+            base,
+            cells,
+            marks_lent: cells,
+            memory,
+            marks,
+            ends: Vec::new(),
+            printed: String::new(),
+        }
+    }
+
+    /// Makes a call and gives the rest of the text.
+    pub fn call<'a>(&mut self, call: Call, text: &'a [u8]) -> &'a [u8] {
+        match call {
+            Call::Begin => {
+                let memory = &mut self.memory[..self.cells];
+                self.state = begin(self.base, memory, &mut self.marks[..self.marks_lent]);
+            }
+            Call::Feed(number) => {
+                let (part, rest) = text.split_at(number.min(text.len()));
+                self.feed(part);
+                return rest;
+            }
+            // Parts of no characters would never end.
+            Call::Rest(0) => {}
+            Call::Rest(number) => {
+                text.chunks(number).for_each(|part| self.feed(part));
+                return &[];
+            }
+            Call::End => self.end(),
+            Call::Show => self.show(),
+            Call::Keep => self.kept = self.state.clone(),
+            Call::Use => self.state = self.kept.clone(),
+            Call::Mark(index, mark) => self.marks[index] = mark,
+            Call::Lend(cells, marks) => (self.cells, self.marks_lent) = (cells, marks),
+            Call::Base(base) => self.base = base,
+            Call::Set(number, value) => self.state.set(number, value),
+        }
+        text
+    }
+
+    fn feed(&mut self, part: &[u8]) {
+        let state = self.state.clone();
+        let memory = &mut self.memory[..self.cells];
+        let marks = &mut self.marks[..self.marks_lent];
+        self.state = feed(state, part, self.base, memory, marks);
+    }
+
+    fn end(&mut self) {
+        let state = self.state.clone();
+        let memory = &mut self.memory[..self.cells];
+        let marks = &mut self.marks[..self.marks_lent];
+        let (loaded, state) = end(state, self.base, memory, marks);
+        self.state = state;
+        self.ends.push(loaded.refusal.number);
+        self.printed += &answer_line(&loaded);
+        self.show();
+    }
+
+    /// The state, and all bytes that are lent.
+    fn show(&mut self) {
+        let memory = hex(&self.memory[..self.cells]);
+        let marks = hex(&self.marks[..self.marks_lent]);
+        let state = state_words(&self.state);
+        self.printed += &format!("state {state}\nmemory {memory}\nmarks {marks}\n");
+    }
+}
+
+/// Nothing is said of the numbers of a state that is refused.
+fn state_words(state: &State) -> String {
+    if let Some(refusal) = state.refusal() {
+        return format!("refused {}", refusal_words(&refusal));
+    }
+    let entry = state.entry().map(|entry| format!("{entry:08x}"));
+    format!(
+        "size {} total {} place {} held {} number {} records {} cells {} head {} entry {}",
+        state.number(Number::Size),
+        state.number(Number::Total),
+        state.number(Number::Place),
+        state.number(Number::Held),
+        state.number(Number::Complete),
+        state.number(Number::Records),
+        state.number(Number::Cells),
+        state.number(Number::Head),
+        entry.unwrap_or("none".to_string()),
+    )
+}
+
+fn hex(bytes: &[u8]) -> String {
+    bytes.iter().map(|byte| format!("{byte:02X}")).collect()
+}
