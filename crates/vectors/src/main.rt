@@ -8,100 +8,10 @@ use formats::Format;
 use libc::STDIN_FILENO;
 use libc::STDOUT_FILENO;
 use tape::Edition;
-use window::Entry;
-use window::Loaded;
-use window::Refusal;
 ghost use mathlib.Core.Path.{_≡_};
 ghost use Prim.Native.Nat.{_≤_, _<_};
 ghost use lib.ListN.{length};
 ghost use Rattle.hex.specs.Tables.{digitTable};
-ghost use Rattle.vectors.specs.Cases.{before};
-
-// How many characters stand before the first that equals `stop`, or before the end.
-fn count_before(stop: u8, chars: &[u8]) -> usize
-    ensures { λ r. ⌜ (r ≡ before stop (now (chars .entry))) × (r ≤ length (now (chars .entry))) ⌝ }
-{
-    let mut i: usize = 0;
-    while i < chars.len() {
-        if chars[i] == stop {
-            return i;
-        }
-        i += 1;
-    }
-    i
-}
-
-// How many bytes of a header there are up to the last that is not zero.
-fn significant(bytes: &[u8; 252]) -> usize
-    ensures { λ r. ⌜ r ≤ 252 ⌝ }
-{
-    let mut n: usize = 252;
-    while n > 0 {
-        if bytes[n - 1] != 0 {
-            return n;
-        }
-        n -= 1;
-    }
-    n
-}
-
-fn print_byte(byte: u8) {
-    io::print_hex(STDOUT_FILENO, byte as u64, 2);
-}
-
-// A header's length, and its bytes without the zeros at their end.
-fn print_header(len: usize, bytes: &[u8; 252]) {
-    io::print_decimal(STDOUT_FILENO, len as u64);
-    io::write_all(STDOUT_FILENO, b":");
-    let n = significant(bytes);
-    let mut i: usize = 0;
-    while i < n {
-        print_byte(bytes[i]);
-        i += 1;
-    }
-}
-
-// Every number of a refusal, the byte that would have been right in two capital digits.
-fn print_refusal(refusal: Refusal) {
-    io::print_decimal(STDOUT_FILENO, refusal.reason as u64);
-    io::write_all(STDOUT_FILENO, b" record ");
-    io::print_decimal(STDOUT_FILENO, refusal.ordinal as u64);
-    io::write_all(STDOUT_FILENO, b" at ");
-    io::print_decimal(STDOUT_FILENO, refusal.place as u64);
-    let mut digits = [0u8; 2];
-    hex_write::put_pair(&mut digits, 0, refusal.want);
-    io::write_all(STDOUT_FILENO, b" want ");
-    io::write_all(STDOUT_FILENO, &digits);
-}
-
-// The address of an entry, or that there is none.
-fn print_entry(entry: Entry) {
-    match entry {
-        Entry::Absent => {
-            io::write_all(STDOUT_FILENO, b"none");
-        }
-        Entry::Present(address) => {
-            io::print_hex(STDOUT_FILENO, address as u64, 8);
-        }
-    }
-}
-
-// Every field of a load's answer.
-fn print_answer(loaded: Loaded) {
-    print_refusal(loaded.refusal);
-    io::write_all(STDOUT_FILENO, b" records ");
-    io::print_decimal(STDOUT_FILENO, loaded.records as u64);
-    io::write_all(STDOUT_FILENO, b" cells ");
-    io::print_decimal(STDOUT_FILENO, loaded.cells as u64);
-    io::write_all(STDOUT_FILENO, b" entry ");
-    let entry = loaded.entry;
-    print_entry(entry);
-    io::write_all(STDOUT_FILENO, b" header ");
-    let header = loaded.header;
-    let bytes = header.bytes;
-    print_header(header.len, &bytes);
-    io::write_all(STDOUT_FILENO, b"\n");
-}
 
 // The canonical text of a text, or why it is refused.
 fn print_canonical(
@@ -115,7 +25,7 @@ fn print_canonical(
     let converted = convert::convert(format, base, text, memory, marks, out);
     match converted {
         Converted::Refused(refusal) => {
-            print_refusal(refusal);
+            printing::print_refusal(refusal);
             io::write_all(STDOUT_FILENO, b"\n");
         }
         Converted::Text(length) => {
@@ -136,7 +46,7 @@ fn run_text(
     out: &mut [u8],
 ) {
     let loaded = load::load_as(format, text, base, memory, marks);
-    print_answer(loaded);
+    printing::print_answer(loaded);
     let refusal = loaded.refusal;
     if refusal.reason == 0 {
         print_canonical(format, base, text, memory, marks, out);
@@ -183,7 +93,7 @@ fn run_case(table: &[u32; 256], cases: &[u8]) -> usize
     requires { ⌜ (now table ≡ digitTable) × (0 < length (now cases)) ⌝ }
     ensures { λ r. ⌜ (0 < r) × (r ≤ length (now (cases .entry))) ⌝ }
 {
-    let end = count_before(10, cases);
+    let end = printing::count_before(10, cases);
     if end < 19 {
         io::write_all(STDOUT_FILENO, b"bad heading\n");
         return cases.len();
@@ -193,7 +103,7 @@ fn run_case(table: &[u32; 256], cases: &[u8]) -> usize
         return end;
     }
     let from = end + 1;
-    let to = from + count_before(64, &cases[from..]);
+    let to = from + printing::count_before(64, &cases[from..]);
     io::write_all(STDOUT_FILENO, &cases[..from]);
     run_window(table, &cases[..end], &cases[from..to]);
     to

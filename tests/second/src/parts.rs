@@ -328,7 +328,7 @@ impl State {
         };
         if self.refusal.is_none() {
             loaded.header_len = self.head;
-            loaded.header = self.header;
+            loaded.header[..self.head].copy_from_slice(&self.header[..self.head]);
             loaded.entry = self.entry;
             loaded.records = self.data_records;
             loaded.cells = self.cells;

@@ -1,0 +1,402 @@
+// Makes the calls of the loads in parts that stand on standard input and prints what they give.
+//
+// A case is a heading line as that of the program `vectors`, with a space before its name; then a line of words, one for each call,
+// with spaces between them; then the text, every character of it, up to the next `@`. A load is begun in the window of the heading.
+// Before that the cells hold E0 to EF in turn, and the marks 7. A word is a letter and its numbers, in decimal:
+//
+//     b       begin once more               m2:1    set mark 2 to 1
+//     f13     feed the next 13 characters   l4:3    lend 4 cells and 3 marks from here on
+//     r5      feed the rest in parts of 5   a16     lend them with base 16 from here on
+//     e       end                           k       keep the state
+//     p       print                         u       use the state that was kept
+//
+// A capital letter overwrites a number of the state: S its size, T its total, P its place, H the characters held, N the number of
+// records, R of data records, C of cells, L the header's length, X the reason of the refusal.
+//
+// An end prints the answer as `vectors` does. Behind it, and for `p`, the state is printed, and all cells and marks that are lent. Of
+// a refused state only the refusal counts.
+use feed::Ended;
+use libc::STDIN_FILENO;
+use libc::STDOUT_FILENO;
+use session::Session;
+use window::Entry;
+ghost use mathlib.Core.Path.{_≡_};
+ghost use Prim.Native.Nat.{_*_, _≤_, _<_};
+ghost use lib.ListN.{length};
+ghost use Rattle.hex.specs.Tables.{digitTable};
+
+// The cells and the marks that a case can lend.
+const ROOM: usize = 4096;
+
+// A number that has one digit more still fits 64 bits.
+const LIMIT: usize = 1000000000000000000;
+
+// What a case goes on with from one word to the next: the state, the one that was kept, the window that is lent, and how much of the
+// text was fed.
+struct Bench {
+    session: Session,
+    kept: Session,
+    base: u32,
+    cells: usize,
+    marks: usize,
+    at: usize,
+}
+
+// The number that decimal digits stand for.
+fn number_in(chars: &[u8]) -> usize {
+    let mut n: usize = 0;
+    let mut i: usize = 0;
+    while i < chars.len() {
+        let digit = chars[i] % 16;
+        n = n % LIMIT * 10 + digit as usize;
+        i += 1;
+    }
+    n
+}
+
+// Cells that were used before: E0 to EF in turn.
+fn fill_cells(cells: &mut [u8]) {
+    let mut i: usize = 0;
+    while i < cells.len() {
+        cells[i] = (224 + i % 16) as u8;
+        i += 1;
+    }
+}
+
+// Marks that were used before.
+fn fill_marks(marks: &mut [u8]) {
+    let mut i: usize = 0;
+    while i < marks.len() {
+        marks[i] = 7;
+        i += 1;
+    }
+}
+
+// A word, and a number behind it.
+fn print_number(word: &[u8], n: usize) {
+    io::write_all(STDOUT_FILENO, word);
+    io::print_decimal(STDOUT_FILENO, n as u64);
+}
+
+// A word, and bytes in capital digits behind it.
+fn print_bytes(word: &[u8], bytes: &[u8])
+    requires { ⌜ length (now bytes) ≤ 4096 ⌝ }
+{
+    let mut digits = io::large_buffer();
+    hex_write::put_pairs(&mut digits, 0, bytes);
+    let n = 2 * bytes.len();
+    io::write_all(STDOUT_FILENO, word);
+    io::write_all(STDOUT_FILENO, &digits[..n]);
+    io::write_all(STDOUT_FILENO, b"\n");
+}
+
+// The entry of a load whose terminator was read.
+fn print_end(ended: bool, entry: Entry) {
+    io::write_all(STDOUT_FILENO, b" entry ");
+    if ended {
+        printing::print_entry(entry);
+        return;
+    }
+    printing::print_entry(Entry::Absent);
+}
+
+// Every number of a state, or its refusal.
+fn print_state(session: Session) {
+    io::write_all(STDOUT_FILENO, b"state ");
+    let refusal = session.refusal;
+    if refusal.reason != 0 {
+        io::write_all(STDOUT_FILENO, b"refused ");
+        printing::print_refusal(refusal);
+        io::write_all(STDOUT_FILENO, b"\n");
+        return;
+    }
+    let tally = session.tally;
+    let state = tally.state;
+    let entry = tally.entry;
+    print_number(b"size ", session.size);
+    print_number(b" total ", session.total);
+    print_number(b" place ", session.place);
+    print_number(b" held ", session.held);
+    print_number(b" number ", state.number);
+    print_number(b" records ", state.records);
+    print_number(b" cells ", state.cells);
+    print_number(b" head ", tally.head);
+    print_end(tally.ended, entry);
+    io::write_all(STDOUT_FILENO, b"\n");
+}
+
+// The state, and all that is lent.
+fn print_bench(bench: Bench, memory: &[u8], marks: &[u8])
+    requires { ⌜ (length (now memory) ≡ 4096) × (length (now marks) ≡ 4096) ⌝ }
+{
+    let session = bench.session;
+    let cells = marks::smaller(bench.cells, ROOM);
+    let lent = marks::smaller(bench.marks, ROOM);
+    print_state(session);
+    print_bytes(b"memory ", &memory[..cells]);
+    print_bytes(b"marks ", &marks[..lent]);
+}
+
+// Begins a load in the window that is lent.
+fn begin(bench: Bench, memory: &[u8], marks: &mut [u8]) -> Bench
+    requires { ⌜ (length (now memory) ≡ 4096) × (length (now marks) ≡ 4096) ⌝ }
+{
+    let cells = marks::smaller(bench.cells, ROOM);
+    let lent = marks::smaller(bench.marks, ROOM);
+    let mut b = bench;
+    let session = session::begin(bench.base, &memory[..cells], &mut marks[..lent]);
+    b.session = session;
+    b
+}
+
+// Feeds a part.
+fn feed_part(bench: Bench, part: &[u8], memory: &mut [u8], marks: &mut [u8]) -> Bench
+    requires { ⌜ (length (now memory) ≡ 4096) × (length (now marks) ≡ 4096) ⌝ }
+{
+    let session = bench.session;
+    let cells = marks::smaller(bench.cells, ROOM);
+    let lent = marks::smaller(bench.marks, ROOM);
+    let mut b = bench;
+    let next = feed::feed(
+        session,
+        part,
+        bench.base,
+        &mut memory[..cells],
+        &mut marks[..lent],
+    );
+    b.session = next;
+    b
+}
+
+// Feeds so many of the characters that are left.
+fn feed_next(bench: Bench, n: usize, text: &[u8], memory: &mut [u8], marks: &mut [u8]) -> Bench
+    requires { ⌜ (length (now memory) ≡ 4096) × (length (now marks) ≡ 4096) ⌝ }
+{
+    let at = marks::smaller(bench.at, text.len());
+    let to = at + marks::smaller(n, text.len() - at);
+    let mut b = feed_part(bench, &text[at..to], memory, marks);
+    b.at = to;
+    b
+}
+
+// Feeds all characters that are left in parts of so many. Parts of none would never end.
+fn feed_rest(bench: Bench, size: usize, text: &[u8], memory: &mut [u8], marks: &mut [u8]) -> Bench
+    requires { ⌜ (length (now memory) ≡ 4096) × (length (now marks) ≡ 4096) ⌝ }
+{
+    if size == 0 {
+        return bench;
+    }
+    let mut b = bench;
+    let mut at = marks::smaller(bench.at, text.len());
+    while at < text.len() {
+        let to = at + marks::smaller(size, text.len() - at);
+        b = feed_part(b, &text[at..to], memory, marks);
+        at = to;
+    }
+    b.at = at;
+    b
+}
+
+// Ends a load and prints what it gives.
+fn end(bench: Bench, memory: &mut [u8], marks: &mut [u8]) -> Bench
+    requires { ⌜ (length (now memory) ≡ 4096) × (length (now marks) ≡ 4096) ⌝ }
+{
+    let session = bench.session;
+    let cells = marks::smaller(bench.cells, ROOM);
+    let lent = marks::smaller(bench.marks, ROOM);
+    let mut b = bench;
+    let ended = feed::end(
+        session,
+        bench.base,
+        &mut memory[..cells],
+        &mut marks[..lent],
+    );
+    let loaded = ended.loaded;
+    let next = ended.session;
+    printing::print_answer(loaded);
+    b.session = next;
+    print_bench(b, memory, marks);
+    b
+}
+
+// The state with one of the numbers that its records gave overwritten.
+fn overwrite_tally(session: Session, letter: u8, n: usize) -> Session {
+    let mut s = session;
+    let mut tally = s.tally;
+    let mut state = tally.state;
+    match letter {
+        b'N' => state.number = n,
+        b'R' => state.records = n,
+        b'C' => state.cells = n,
+        b'L' => tally.head = n,
+        _ => {}
+    }
+    tally.state = state;
+    s.tally = tally;
+    s
+}
+
+// The state with one of its own numbers overwritten.
+fn overwrite(session: Session, letter: u8, n: usize) -> Session {
+    let mut s = session;
+    let mut refusal = s.refusal;
+    match letter {
+        b'S' => s.size = n,
+        b'T' => s.total = n,
+        b'P' => s.place = n,
+        b'H' => s.held = n,
+        b'X' => refusal.reason = (n % 4294967296) as u32,
+        _ => return overwrite_tally(session, letter, n),
+    }
+    s.refusal = refusal;
+    s
+}
+
+fn set_mark(marks: &mut [u8], i: usize, n: usize) {
+    if i < marks.len() {
+        marks[i] = (n % 256) as u8;
+    }
+}
+
+// What a word that makes no call changes for those behind it.
+fn change(bench: Bench, letter: u8, first: usize, second: usize) -> Bench {
+    let mut b = bench;
+    let session = b.session;
+    let kept = b.kept;
+    match letter {
+        b'a' => b.base = (first % 4294967296) as u32,
+        b'l' => {
+            b.cells = first;
+            b.marks = second;
+        }
+        b'k' => b.kept = session,
+        b'u' => b.session = kept,
+        _ => {
+            let next = overwrite(session, letter, first);
+            b.session = next;
+        }
+    }
+    b
+}
+
+// Makes the call of a word.
+fn call(
+    bench: Bench,
+    letter: u8,
+    first: usize,
+    second: usize,
+    text: &[u8],
+    memory: &mut [u8],
+    marks: &mut [u8],
+) -> Bench
+    requires { ⌜ (length (now memory) ≡ 4096) × (length (now marks) ≡ 4096) ⌝ }
+{
+    match letter {
+        b'b' => return begin(bench, memory, marks),
+        b'f' => return feed_next(bench, first, text, memory, marks),
+        b'r' => return feed_rest(bench, first, text, memory, marks),
+        b'e' => return end(bench, memory, marks),
+        b'p' => {
+            print_bench(bench, memory, marks);
+            return bench;
+        }
+        b'm' => {
+            set_mark(marks, first, second);
+            return bench;
+        }
+        _ => return change(bench, letter, first, second),
+    }
+}
+
+// Runs one word: a letter, and up to two numbers with a colon between them.
+fn run_word(bench: Bench, word: &[u8], text: &[u8], memory: &mut [u8], marks: &mut [u8]) -> Bench
+    requires { ⌜ (length (now memory) ≡ 4096) × (length (now marks) ≡ 4096) ⌝ }
+{
+    if word.len() == 0 {
+        return bench;
+    }
+    let numbers = &word[1..];
+    let colon = printing::count_before(b':', numbers);
+    let behind = marks::smaller(colon + 1, numbers.len());
+    let first = number_in(&numbers[..colon]);
+    let second = number_in(&numbers[behind..]);
+    call(bench, word[0], first, second, text, memory, marks)
+}
+
+// Runs the words of a case.
+fn run_words(bench: Bench, words: &[u8], text: &[u8], memory: &mut [u8], marks: &mut [u8])
+    requires { ⌜ (length (now memory) ≡ 4096) × (length (now marks) ≡ 4096) ⌝ }
+{
+    let mut b = bench;
+    let mut at: usize = 0;
+    while at < words.len() {
+        let end = at + printing::count_before(b' ', &words[at..]);
+        b = run_word(b, &words[at..end], text, memory, marks);
+        at = end + 1;
+    }
+}
+
+// Begins a load in the window that a heading gives, and runs the words.
+fn run_window(table: &[u32; 256], heading: &[u8], words: &[u8], text: &[u8])
+    requires { ⌜ (now table ≡ digitTable) × (19 ≤ length (now heading)) ⌝ }
+{
+    let base = hex::number_of(table, &heading[1..9]);
+    let size = hex::number_of(table, &heading[10..18]) as usize;
+    let cells = marks::smaller(size, ROOM);
+    let mut memory = io::buffer();
+    let mut marks = io::buffer();
+    fill_cells(&mut memory);
+    fill_marks(&mut marks);
+    let session = session::begin(base, &memory[..cells], &mut marks[..cells]);
+    let bench = Bench {
+        session,
+        kept: session,
+        base,
+        cells,
+        marks: cells,
+        at: 0,
+    };
+    run_words(bench, words, text, &mut memory, &mut marks);
+}
+
+// Runs the first of some cases and returns how many characters it has.
+fn run_case(table: &[u32; 256], cases: &[u8]) -> usize
+    requires { ⌜ (now table ≡ digitTable) × (0 < length (now cases)) ⌝ }
+    ensures { λ r. ⌜ (0 < r) × (r ≤ length (now (cases .entry))) ⌝ }
+{
+    let end = printing::count_before(b'\n', cases);
+    if end < 19 {
+        io::write_all(STDOUT_FILENO, b"bad heading\n");
+        return cases.len();
+    }
+    if end == cases.len() {
+        io::write_all(STDOUT_FILENO, b"no words\n");
+        return end;
+    }
+    let words = end + 1;
+    let last = words + printing::count_before(b'\n', &cases[words..]);
+    if last == cases.len() {
+        io::write_all(STDOUT_FILENO, b"no text\n");
+        return last;
+    }
+    let from = last + 1;
+    let to = from + printing::count_before(b'@', &cases[from..]);
+    io::write_all(STDOUT_FILENO, &cases[..words]);
+    run_window(table, &cases[..end], &cases[words..last], &cases[from..to]);
+    to
+}
+
+// Runs all cases.
+fn run_cases(cases: &[u8]) {
+    let table = hex::digit_table();
+    let mut at: usize = 0;
+    while at < cases.len() {
+        at += run_case(&table, &cases[at..]);
+    }
+}
+
+fn main() {
+    let mut cases = io::large_buffer();
+    let n = io::read_full(STDIN_FILENO, &mut cases);
+    run_cases(&cases[..n]);
+}

@@ -1,0 +1,95 @@
+// What the programs over cases share: where a piece of their input ends, and how they print an answer.
+use libc::STDOUT_FILENO;
+use window::Entry;
+use window::Loaded;
+use window::Refusal;
+ghost use mathlib.Core.Path.{_≡_};
+ghost use Prim.Native.Nat.{_≤_};
+ghost use lib.ListN.{length};
+ghost use Rattle.printing.specs.Cases.{before};
+
+// How many characters stand before the first that equals `stop`, or before the end.
+pub fn count_before(stop: u8, chars: &[u8]) -> usize
+    ensures { λ r. ⌜ (r ≡ before stop (now (chars .entry))) × (r ≤ length (now (chars .entry))) ⌝ }
+{
+    let mut i: usize = 0;
+    while i < chars.len() {
+        if chars[i] == stop {
+            return i;
+        }
+        i += 1;
+    }
+    i
+}
+
+// How many bytes of a header there are up to the last that is not zero.
+fn significant(bytes: &[u8; 252]) -> usize
+    ensures { λ r. ⌜ r ≤ 252 ⌝ }
+{
+    let mut n: usize = 252;
+    while n > 0 {
+        if bytes[n - 1] != 0 {
+            return n;
+        }
+        n -= 1;
+    }
+    n
+}
+
+fn print_byte(byte: u8) {
+    io::print_hex(STDOUT_FILENO, byte as u64, 2);
+}
+
+// A header's length, and its bytes without the zeros at their end.
+fn print_header(len: usize, bytes: &[u8; 252]) {
+    io::print_decimal(STDOUT_FILENO, len as u64);
+    io::write_all(STDOUT_FILENO, b":");
+    let n = significant(bytes);
+    let mut i: usize = 0;
+    while i < n {
+        print_byte(bytes[i]);
+        i += 1;
+    }
+}
+
+// Every number of a refusal, the byte that would have been right in two capital digits.
+pub fn print_refusal(refusal: Refusal) {
+    io::print_decimal(STDOUT_FILENO, refusal.reason as u64);
+    io::write_all(STDOUT_FILENO, b" record ");
+    io::print_decimal(STDOUT_FILENO, refusal.ordinal as u64);
+    io::write_all(STDOUT_FILENO, b" at ");
+    io::print_decimal(STDOUT_FILENO, refusal.place as u64);
+    let mut digits = [0u8; 2];
+    hex_write::put_pair(&mut digits, 0, refusal.want);
+    io::write_all(STDOUT_FILENO, b" want ");
+    io::write_all(STDOUT_FILENO, &digits);
+}
+
+// The address of an entry, or that there is none.
+pub fn print_entry(entry: Entry) {
+    match entry {
+        Entry::Absent => {
+            io::write_all(STDOUT_FILENO, b"none");
+        }
+        Entry::Present(address) => {
+            io::print_hex(STDOUT_FILENO, address as u64, 8);
+        }
+    }
+}
+
+// Every field of a load's answer.
+pub fn print_answer(loaded: Loaded) {
+    print_refusal(loaded.refusal);
+    io::write_all(STDOUT_FILENO, b" records ");
+    io::print_decimal(STDOUT_FILENO, loaded.records as u64);
+    io::write_all(STDOUT_FILENO, b" cells ");
+    io::print_decimal(STDOUT_FILENO, loaded.cells as u64);
+    io::write_all(STDOUT_FILENO, b" entry ");
+    let entry = loaded.entry;
+    print_entry(entry);
+    io::write_all(STDOUT_FILENO, b" header ");
+    let header = loaded.header;
+    let bytes = header.bytes;
+    print_header(header.len, &bytes);
+    io::write_all(STDOUT_FILENO, b"\n");
+}
