@@ -15,13 +15,12 @@
 //
 // An end prints the answer as `vectors` does. Behind it, and for `p`, the state is printed, and all cells and marks that are lent. Of
 // a refused state only the refusal counts.
-use feed::Ended;
 use libc::STDIN_FILENO;
 use libc::STDOUT_FILENO;
 use session::Session;
 use window::Entry;
 ghost use mathlib.Core.Path.{_≡_};
-ghost use Prim.Native.Nat.{_*_, _≤_, _<_};
+ghost use Prim.Native.Nat.{_≤_, _<_};
 ghost use lib.ListN.{length};
 ghost use Rattle.hex.specs.Tables.{digitTable};
 
@@ -331,22 +330,19 @@ fn run_words(bench: Bench, words: &[u8], text: &[u8], memory: &mut [u8], marks: 
     let mut at: usize = 0;
     while at < words.len() {
         let end = at + printing::count_before(b' ', &words[at..]);
+        // behind the space
+        let next = end + marks::smaller(1, words.len() - end);
         b = run_word(b, &words[at..end], text, memory, marks);
-        at = end + 1;
+        at = next;
     }
 }
 
-// Begins a load in the window that a heading gives, and runs the words.
-fn run_window(table: &[u32; 256], heading: &[u8], words: &[u8], text: &[u8])
-    requires { ⌜ (now table ≡ digitTable) × (19 ≤ length (now heading)) ⌝ }
+// Begins a load in buffers that were used before, and runs the words.
+fn run_lent(base: u32, cells: usize, words: &[u8], text: &[u8], memory: &mut [u8], marks: &mut [u8])
+    requires { ⌜ (cells ≤ 4096) × (length (now memory) ≡ 4096) × (length (now marks) ≡ 4096) ⌝ }
 {
-    let base = hex::number_of(table, &heading[1..9]);
-    let size = hex::number_of(table, &heading[10..18]) as usize;
-    let cells = marks::smaller(size, ROOM);
-    let mut memory = io::buffer();
-    let mut marks = io::buffer();
-    fill_cells(&mut memory);
-    fill_marks(&mut marks);
+    fill_cells(memory);
+    fill_marks(marks);
     let session = session::begin(base, &memory[..cells], &mut marks[..cells]);
     let bench = Bench {
         session,
@@ -356,7 +352,37 @@ fn run_window(table: &[u32; 256], heading: &[u8], words: &[u8], text: &[u8])
         marks: cells,
         at: 0,
     };
-    run_words(bench, words, text, &mut memory, &mut marks);
+    run_words(bench, words, text, memory, marks);
+}
+
+// Runs the words of a case in the window that its heading gives.
+fn run_window(table: &[u32; 256], heading: &[u8], words: &[u8], text: &[u8])
+    requires { ⌜ (now table ≡ digitTable) × (19 ≤ length (now heading)) ⌝ }
+{
+    let base = hex::number_of(table, &heading[1..9]);
+    let size = hex::number_of(table, &heading[10..18]) as usize;
+    let cells = marks::smaller(size, ROOM);
+    let mut memory = io::buffer();
+    let mut marks = io::buffer();
+    run_lent(base, cells, words, text, &mut memory, &mut marks);
+}
+
+// Runs the first of some cases, whose heading ends at a place, and returns how many characters it has.
+fn run_lines(table: &[u32; 256], cases: &[u8], end: usize) -> usize
+    requires { ⌜ (now table ≡ digitTable) × (19 ≤ end) × (end < length (now cases)) ⌝ }
+    ensures { λ r. ⌜ (0 < r) × (r ≤ length (now (cases .entry))) ⌝ }
+{
+    let words = end + 1;
+    let last = words + printing::count_before(b'\n', &cases[words..]);
+    if last == cases.len() {
+        io::write_all(STDOUT_FILENO, b"no text\n");
+        return last;
+    }
+    let from = last + 1;
+    let to = from + printing::count_before(b'@', &cases[from..]);
+    io::write_all(STDOUT_FILENO, &cases[..words]);
+    run_window(table, &cases[..end], &cases[words..last], &cases[from..to]);
+    to
 }
 
 // Runs the first of some cases and returns how many characters it has.
@@ -373,17 +399,7 @@ fn run_case(table: &[u32; 256], cases: &[u8]) -> usize
         io::write_all(STDOUT_FILENO, b"no words\n");
         return end;
     }
-    let words = end + 1;
-    let last = words + printing::count_before(b'\n', &cases[words..]);
-    if last == cases.len() {
-        io::write_all(STDOUT_FILENO, b"no text\n");
-        return last;
-    }
-    let from = last + 1;
-    let to = from + printing::count_before(b'@', &cases[from..]);
-    io::write_all(STDOUT_FILENO, &cases[..words]);
-    run_window(table, &cases[..end], &cases[words..last], &cases[from..to]);
-    to
+    run_lines(table, cases, end)
 }
 
 // Runs all cases.
