@@ -2,8 +2,11 @@
 //! they give: crates/calls/src/main.rt says which.
 
 use crate::parts::{begin, end, feed, Number, State};
-use crate::script::{answer_line, refusal_words, ROOM};
+use crate::script::{answer_line, refusal_words, ROOM as INPUT};
 use std::fmt::{self, Display, Formatter};
+
+/// The cells and the marks that `calls` can lend.
+pub const ROOM: usize = 4_096;
 
 /// What a case can do, in turn.
 #[derive(Clone, Copy, Debug, PartialEq, Eq)]
@@ -45,39 +48,28 @@ impl Display for Call {
     fn fmt(&self, out: &mut Formatter) -> fmt::Result {
         match *self {
             Call::Begin => write!(out, "b"),
-            Call::Feed(number) => write!(out, "f{number:X}"),
-            Call::Rest(number) => write!(out, "r{number:X}"),
+            Call::Feed(number) => write!(out, "f{number}"),
+            Call::Rest(number) => write!(out, "r{number}"),
             Call::End => write!(out, "e"),
             Call::Show => write!(out, "p"),
             Call::Keep => write!(out, "k"),
             Call::Use => write!(out, "u"),
-            Call::Mark(index, mark) => write!(out, "m{index:X}:{mark:X}"),
-            Call::Lend(cells, marks) => write!(out, "l{cells:X}:{marks:X}"),
-            Call::Base(base) => write!(out, "a{base:X}"),
+            Call::Mark(index, mark) => write!(out, "m{index}:{mark}"),
+            Call::Lend(cells, marks) => write!(out, "l{cells}:{marks}"),
+            Call::Base(base) => write!(out, "a{base}"),
             Call::Set(number, value) => {
                 let named = NUMBERS.iter().find(|(_, named)| *named == number);
                 let letter = named.map_or('?', |(letter, _)| *letter);
-                let (high, low) = (value >> 32, value & 0xFFFF_FFFF);
-                if high == 0 {
-                    write!(out, "{letter}{low:X}")
-                } else {
-                    write!(out, "{letter}{high:X}:{low:X}")
-                }
+                write!(out, "{letter}{value}")
             }
         }
     }
 }
 
-/// Up to eight hex digits.
-fn digits(word: &str) -> Option<usize> {
-    let short = word.len() <= 8;
-    usize::from_str_radix(word, 16).ok().filter(|_| short)
-}
-
 /// Two numbers with a colon between them.
 fn two(word: &str) -> Option<(usize, usize)> {
     let (first, second) = word.split_once(':')?;
-    Some((digits(first)?, digits(second)?))
+    Some((first.parse().ok()?, second.parse().ok()?))
 }
 
 fn parse_call(word: &str) -> Option<Call> {
@@ -95,18 +87,14 @@ fn parse_call(word: &str) -> Option<Call> {
         return simple.filter(|_| rest.is_empty());
     }
     match letter {
-        'f' => Some(Call::Feed(digits(rest)?)),
-        'r' => Some(Call::Rest(digits(rest)?)),
-        'a' => Some(Call::Base(digits(rest)? as u32)),
+        'f' => Some(Call::Feed(rest.parse().ok()?)),
+        'r' => Some(Call::Rest(rest.parse().ok()?)),
+        'a' => Some(Call::Base(rest.parse().ok()?)),
         'm' => two(rest).map(|(index, mark)| Call::Mark(index, mark as u8)),
         'l' => two(rest).map(|(cells, marks)| Call::Lend(cells, marks)),
         _ => {
             let &(_, number) = NUMBERS.iter().find(|(named, _)| *named == letter)?;
-            let value = match two(rest) {
-                Some((high, low)) => (high << 32) + low,
-                None => digits(rest)?,
-            };
-            Some(Call::Set(number, value))
+            Some(Call::Set(number, rest.parse().ok()?))
         }
     }
 }
@@ -143,7 +131,7 @@ impl Case {
         self.cells <= ROOM
             && self.calls.iter().all(lent)
             && !self.text.contains(&b'@')
-            && self.script().len() <= ROOM
+            && self.script().len() <= INPUT
     }
 
     /// What `calls` has to print for it.
@@ -171,12 +159,12 @@ fn parse_case(script: &[u8]) -> Option<Case> {
     let words = std::str::from_utf8(lines.next()?).ok()?;
     let text = lines.next()?.to_vec();
     let (window, name) = heading.split_once(' ')?;
-    let (base, cells) = two(window)?;
+    let (base, cells) = window.split_once(':')?;
     let words = words.split(' ').filter(|word| !word.is_empty());
     let case = Case {
         name: name.to_string(),
-        base: base as u32,
-        cells,
+        base: u32::from_str_radix(base, 16).ok()?,
+        cells: usize::from_str_radix(cells, 16).ok()?,
         calls: words.map(parse_call).collect::<Option<_>>()?,
         text,
     };
