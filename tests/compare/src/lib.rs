@@ -4,13 +4,15 @@
 //! comes back. `properties` asks of the library alone what must hold of texts
 //! that are loaded and written again. These take the format, S-records or tapes
 //! (`format`). `answers` compares whole answers, by way of the program
-//! `vectors`. `examples` holds the files of the examples folder to the second
+//! `vectors`, and `parts` loads in parts, by way of the program `calls`.
+//! `examples` holds the files of the examples folder to the second
 //! reading.
 
 pub mod answers;
 pub mod examples;
 pub mod format;
 pub mod loads;
+pub mod parts;
 pub mod properties;
 pub mod settings;
 pub mod writes;
@@ -18,6 +20,7 @@ pub mod writes;
 mod content;
 mod guarded;
 mod library;
+mod program;
 mod tally;
 mod texts;
 

@@ -134,14 +134,24 @@ impl Case {
             && self.script().len() <= INPUT
     }
 
-    /// What `calls` has to print for it.
-    pub fn answer(&self) -> Vec<u8> {
+    /// Makes all calls.
+    fn run(&self) -> Bench {
         let mut bench = Bench::new(self.base, self.cells);
         let mut text = &self.text[..];
         for call in &self.calls {
             text = bench.call(*call, text);
         }
-        (self.heading() + &bench.printed).into_bytes()
+        bench
+    }
+
+    /// What `calls` has to print for it.
+    pub fn answer(&self) -> Vec<u8> {
+        (self.heading() + &self.run().printed).into_bytes()
+    }
+
+    /// The refusal number of each end.
+    pub fn ends(&self) -> Vec<u32> {
+        self.run().ends
     }
 }
 
@@ -181,8 +191,7 @@ pub struct Bench {
     pub marks_lent: usize,
     memory: Vec<u8>,
     marks: Vec<u8>,
-    /// The refusal number of each end.
-    pub ends: Vec<u32>,
+    ends: Vec<u32>,
     printed: String,
 }
 

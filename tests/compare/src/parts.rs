@@ -1,0 +1,45 @@
+//! Loads in parts, by the program `calls` and by the second reading: every field
+//! of the answers, the state, memory and marks, however the text is cut and
+//! whatever the caller does between the calls.
+
+use crate::program::{Batch, CALLS};
+use crate::settings::Settings;
+use crate::tally::Tally;
+use second::cases::series::{series_case, Trick, TRICKS};
+use second::cases::{FULL, LOAD_NUMBERS, SMALL};
+
+/// The part of a text that is too long.
+const ROW_20: u32 = 20;
+
+/// Compares so many drawn series of calls. With 17 there are large texts of each
+/// kind.
+pub fn drawn(settings: &Settings) -> Result<String, String> {
+    let mut numbers = Tally::of(LOAD_NUMBERS.into_iter().chain([ROW_20]));
+    let mut tricks = Tally::of(TRICKS);
+    let mut batch = Batch::of(CALLS);
+    for index in 0..settings.cases {
+        let large = index.is_multiple_of(17);
+        let limits = if large { FULL } else { SMALL };
+        let (trick, case) = series_case(settings.seed, index, limits);
+        if !case.fits() {
+            continue;
+        }
+        tricks.add(trick);
+        // A reason that is set can be any number.
+        if trick != Trick::Reason {
+            case.ends().into_iter().for_each(|end| numbers.add(end));
+        }
+        batch.add(case)?;
+    }
+    batch.run()?;
+    let numbers = numbers
+        .complete()
+        .map_err(|error| format!("rows: {error}"))?;
+    let tricks = tricks
+        .complete()
+        .map_err(|error| format!("tricks: {error}"))?;
+    let compared = batch.compared;
+    Ok(format!(
+        "{compared} series of calls; rows: {numbers}; tricks: {tricks}"
+    ))
+}
