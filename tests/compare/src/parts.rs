@@ -5,8 +5,10 @@
 use crate::program::{Batch, CALLS};
 use crate::settings::Settings;
 use crate::tally::Tally;
-use second::cases::series::{series_case, Trick, TRICKS};
+use second::cases::cuts::WAYS;
+use second::cases::series::{series_case, Drawn, Trick, TRICKS};
 use second::cases::{FULL, LOAD_NUMBERS, SMALL};
+use std::fmt::Debug;
 
 /// The part of a text that is too long.
 const ROW_20: u32 = 20;
@@ -15,16 +17,17 @@ const ROW_20: u32 = 20;
 /// kind.
 pub fn drawn(settings: &Settings) -> Result<String, String> {
     let mut numbers = Tally::of(LOAD_NUMBERS.into_iter().chain([ROW_20]));
-    let mut tricks = Tally::of(TRICKS);
+    let (mut tricks, mut cuts) = (Tally::of(TRICKS), Tally::of(WAYS));
     let mut batch = Batch::of(CALLS);
     for index in 0..settings.cases {
         let large = index.is_multiple_of(17);
         let limits = if large { FULL } else { SMALL };
-        let (trick, case) = series_case(settings.seed, index, limits);
+        let Drawn { case, ways, trick } = series_case(settings.seed, index, limits);
         if !case.fits() {
             continue;
         }
         tricks.add(trick);
+        ways.into_iter().for_each(|way| cuts.add(way));
         // A reason that is set can be any number.
         if trick != Trick::Reason {
             case.ends().into_iter().for_each(|end| numbers.add(end));
@@ -32,14 +35,16 @@ pub fn drawn(settings: &Settings) -> Result<String, String> {
         batch.add(case)?;
     }
     batch.run()?;
-    let numbers = numbers
-        .complete()
-        .map_err(|error| format!("rows: {error}"))?;
-    let tricks = tricks
-        .complete()
-        .map_err(|error| format!("tricks: {error}"))?;
     let compared = batch.compared;
     Ok(format!(
-        "{compared} series of calls; rows: {numbers}; tricks: {tricks}"
+        "{compared} series of calls; {}; {}; {}",
+        told("rows", &numbers)?,
+        told("cuts", &cuts)?,
+        told("tricks", &tricks)?
     ))
+}
+
+fn told<T: Ord + Debug>(name: &str, tally: &Tally<T>) -> Result<String, String> {
+    let told = |counts| format!("{name}: {counts}");
+    tally.complete().map(told).map_err(told)
 }

@@ -77,6 +77,46 @@ pub fn any_parts(random: &mut Random, text: &[u8]) -> Vec<Vec<u8>> {
     cut(text, &places)
 }
 
+/// The ways of cutting. Each must come up.
+pub const WAYS: [&str; 9] = [
+    "no part",
+    "one part",
+    "empty part",
+    "each character alone",
+    "in CR LF",
+    "in a record",
+    "behind 514 characters",
+    "behind 514 of more",
+    "behind 515 characters",
+];
+
+/// In which of these ways parts are cut; some can be told more than once.
+pub fn ways(parts: &[Vec<u8>]) -> Vec<&'static str> {
+    let text = parts.concat();
+    let mut found = Vec::new();
+    let mut see = |name, seen: bool| found.extend(seen.then_some(name));
+    see("no part", parts.is_empty());
+    see("one part", parts.len() == 1);
+    see("empty part", parts.iter().any(Vec::is_empty));
+    let alone = text.len() > 1 && parts.iter().all(|part| part.len() == 1);
+    see("each character alone", alone);
+    let mut place = 0;
+    for part in parts {
+        place += part.len();
+        let (before, behind) = text.split_at(place);
+        let goes_on = behind.first().is_some_and(|&c| !ends_line(c));
+        let in_end = before.ends_with(b"\r") && behind.starts_with(b"\n");
+        see("in CR LF", in_end);
+        let line = before.split(|&c| ends_line(c)).next_back();
+        let length = line.map_or(0, <[u8]>::len);
+        see("in a record", length > 0 && goes_on);
+        see("behind 514 characters", length == 514);
+        see("behind 514 of more", length == 514 && goes_on);
+        see("behind 515 characters", length == 515);
+    }
+    found
+}
+
 fn any_places(random: &mut Random, text: &[u8]) -> Vec<usize> {
     let number = random.size(1, 6);
     (0..number).map(|_| random.size(0, text.len())).collect()

@@ -1,6 +1,6 @@
 //! Loads in parts as series of calls, with what a caller can do between them.
 
-use super::cuts::any_parts;
+use super::cuts::{any_parts, ways};
 use super::{load_case, Limits, LoadCase};
 use crate::calls::{Bench, Call, Case};
 use crate::parts::{Number, MOST};
@@ -78,8 +78,15 @@ impl Series<'_> {
     }
 }
 
+/// A series, how its text is cut, and what the caller does at one of the cuts.
+pub struct Drawn {
+    pub case: Case,
+    pub ways: Vec<&'static str>,
+    pub trick: Trick,
+}
+
 /// The load case of this seed and index, cut, with a trick at one of the cuts.
-pub fn series_case(seed: u64, index: u64, limits: Limits) -> (Trick, Case) {
+pub fn series_case(seed: u64, index: u64, limits: Limits) -> Drawn {
     // The calls have other numbers than the text.
     let random = &mut Random::new(!seed, index);
     let drawn = load_case(seed, index, limits);
@@ -90,7 +97,8 @@ pub fn series_case(seed: u64, index: u64, limits: Limits) -> (Trick, Case) {
         calls: Vec::new(),
         rest: &text,
     };
-    draw_calls(random, &mut series, &drawn, trick);
+    let parts = any_parts(random, &drawn.text);
+    draw_calls(random, &mut series, &drawn, &parts, trick);
     let case = Case {
         name: format!("seed {seed}, index {index}, {trick:?}"),
         base: drawn.base,
@@ -98,15 +106,21 @@ pub fn series_case(seed: u64, index: u64, limits: Limits) -> (Trick, Case) {
         calls: series.calls,
         text,
     };
-    (trick, case)
+    let ways = ways(&parts);
+    Drawn { case, ways, trick }
 }
 
-fn draw_calls(random: &mut Random, series: &mut Series, drawn: &LoadCase, trick: Trick) {
+fn draw_calls(
+    random: &mut Random,
+    series: &mut Series,
+    drawn: &LoadCase,
+    parts: &[Vec<u8>],
+    trick: Trick,
+) {
     if drawn.marks.len() != drawn.memory.len() {
         series.call(Call::Lend(drawn.memory.len(), drawn.marks.len()));
         series.call(Call::Begin);
     }
-    let parts = any_parts(random, &drawn.text);
     let at = random.size(0, parts.len());
     for (index, part) in parts.iter().enumerate() {
         if index == at {

@@ -1,7 +1,7 @@
 //! Drawn texts, cut in many ways, against the whole load.
 
 use super::{assert_empty, refusal, Bench};
-use second::cases::cuts::{cut, parts_case, PartsCase};
+use second::cases::cuts::{cut, parts_case, ways, PartsCase, WAYS};
 use second::cases::{large_load_cases, Limits, LoadCase, FULL, LOAD_NUMBERS, SMALL};
 use second::random::Random;
 use second::reading::{load, Loaded};
@@ -64,45 +64,17 @@ fn check_agreement(case: &PartsCase) -> u32 {
     number
 }
 
-/// What a way of cutting has to show. Each is a name that must come up.
-fn ways(case: &PartsCase) -> Vec<&'static str> {
-    let parts = &case.parts;
-    let text = parts.concat();
-    let mut found = Vec::new();
-    let mut see = |name, seen: bool| found.extend(seen.then_some(name));
-    see("no part", parts.is_empty());
-    see("one part", parts.len() == 1);
-    see("empty part", parts.iter().any(Vec::is_empty));
-    let alone = text.len() > 1 && parts.iter().all(|part| part.len() == 1);
-    see("each character alone", alone);
-    let mut place = 0;
-    for part in parts {
-        place += part.len();
-        let (before, behind) = text.split_at(place);
-        let goes_on = behind.first().is_some_and(|&c| !ends_line(c));
-        let in_end = before.ends_with(b"\r") && behind.starts_with(b"\n");
-        see("in CR LF", in_end);
-        let line = before.split(|&c| ends_line(c)).next_back();
-        let length = line.map_or(0, <[u8]>::len);
-        see("in a record", length > 0 && goes_on);
-        see("behind 514 characters", length == 514);
-        see("behind 514 of more", length == 514 && goes_on);
-        see("behind 515 characters", length == 515);
-    }
-    found
-}
-
 #[test]
 fn drawn_texts_agree_with_the_whole_load() {
     let (mut numbers, mut seen) = (BTreeSet::new(), BTreeSet::new());
     for index in 0..CASES {
         for case in [parts_case(1, index, FULL), parts_case(2, index, SMALL)] {
             numbers.insert(check_agreement(&case));
-            seen.extend(ways(&case));
+            seen.extend(ways(&case.parts));
         }
     }
     assert_eq!(Vec::from_iter(numbers), LOAD_NUMBERS);
-    assert_eq!(seen.len(), 9, "{seen:?}");
+    assert_eq!(seen.len(), WAYS.len(), "{seen:?}");
 }
 
 /// Every refusal also comes up in texts of small limits.
@@ -112,10 +84,10 @@ fn small_texts_reach_every_refusal_and_way() {
     for index in 0..3_000 {
         let case = parts_case(1, index, SMALL);
         numbers.insert(case.run().0.refusal.number);
-        seen.extend(ways(&case));
+        seen.extend(ways(&case.parts));
     }
     assert_eq!(Vec::from_iter(numbers), LOAD_NUMBERS);
-    assert_eq!(seen.len(), 9, "{seen:?}");
+    assert_eq!(seen.len(), WAYS.len(), "{seen:?}");
 }
 
 /// More records than an S5 can count.
