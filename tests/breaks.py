@@ -6,9 +6,11 @@
 An edit of kind 'library' breaks a library: tests/second under the face of include/srec.h (breaks/library/face.rs), so no
 archive and no prover is needed. tests/compare must notice, or tests/c where that does not. An edit of kind 'answers' breaks
 tests/second itself in what the C face does not show; tests/compare must notice that by way of the program vectors, which
-`rt check vectors` builds (and `rt staticlib capi` the archive that tests/compare links). An edit names a file and replaces
-text that stands there exactly once, or several such texts in turn. With no edit nothing may be noticed. One line an edit; the
-last line is 'N passed, M failed'."""
+`rt check vectors` builds (and `rt staticlib capi` the archive that tests/compare links). An edit of kind 'parts' breaks it in
+loads in parts, and tests/compare must notice that by way of the program calls. An edit of kind 'calls' breaks the crates
+themselves; the program calls is compiled with it, without a proof, and the cases of crates/calls must notice. An edit names a
+file and replaces text that stands there exactly once, or several such texts in turn. With no edit nothing may be noticed. One
+line an edit; the last line is 'N passed, M failed'."""
 
 import os
 import re
@@ -84,16 +86,42 @@ def library(edit, folder):
     return None
 
 
-def answers(edit, folder):
-    """Edits a copy of tests/second and gives what tests/compare says of it."""
+def second(edit, folder, test):
+    """Edits a copy of tests/second and gives what a test of tests/compare says of it."""
     for name in ("second", "compare"):
         shutil.copytree(TESTS / name, folder / name, ignore=shutil.ignore_patterns("target"))
     if edit:
         apply(edit, folder / "second" / "src")
-    places = {"VECTORS": str(TARGET / "bin" / "vectors"), "SREC_LIB_DIR": str(TARGET / "staticlib"), "RUSTFLAGS": "-A warnings"}
+    programs = {"VECTORS": str(TARGET / "bin" / "vectors"), "CALLS": str(TARGET / "bin" / "calls")}
+    places = {**programs, "SREC_LIB_DIR": str(TARGET / "staticlib"), "RUSTFLAGS": "-A warnings"}
     # an edit that does not compile is not one that is noticed
-    subprocess.run(cargo(folder, "answers", "--no-run"), env={**os.environ, **places}, stderr=subprocess.DEVNULL, check=True)
-    return "answers" if failures(drawn(folder, "answers"), places) else None
+    subprocess.run(cargo(folder, test, "--no-run"), env={**os.environ, **places}, stderr=subprocess.DEVNULL, check=True)
+    return test if failures(drawn(folder, test), places) else None
+
+
+def answers(edit, folder):
+    """Whole answers, by the program vectors."""
+    return second(edit, folder, "answers")
+
+
+def parts(edit, folder):
+    """Loads in parts, by the program calls."""
+    return second(edit, folder, "parts")
+
+
+def calls(edit, folder):
+    """Edits a copy of the crates and gives which of the compiled programs write something else than crates/calls/stdout."""
+    shutil.copy(TESTS.parent / "crates.txt", folder)
+    shutil.copytree(TESTS.parent / "crates", folder / "crates")
+    if edit:
+        apply(edit, folder / "crates")
+    ran = subprocess.run(["rt", "try", "calls"], cwd=folder, stdout=subprocess.PIPE, stderr=subprocess.STDOUT)
+    printed = ran.stdout.decode("utf-8", "replace")
+    found = re.findall(r"^(ok|FAIL): the native program (.*?) (?:ended|failed)", printed, re.MULTILINE)
+    if not found:
+        sys.exit(f"{edit}: no program was compiled: {printed.strip().splitlines()[-1:]}")
+    broken = [name for word, name in found if word == "FAIL"]
+    return "calls: " + "; ".join(broken) if broken else None
 
 
 def try_edit(kind, edit):
@@ -108,7 +136,7 @@ def try_edit(kind, edit):
 def main():
     names = sys.argv[1:]
     results = []
-    for kind in (library, answers):
+    for kind in (library, answers, parts, calls):
         edits = [None, *sorted((BREAKS / kind.__name__).glob("*.edit"))]
         results += [try_edit(kind, edit) for edit in edits if not names or edit and edit.stem in names]
     print(f"{sum(results)} passed, {len(results) - sum(results)} failed")
