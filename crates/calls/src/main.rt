@@ -25,7 +25,7 @@ ghost use lib.ListN.{length};
 ghost use Rattle.hex.specs.Tables.{digitTable};
 
 // The cells and the marks that a case can lend.
-const ROOM: usize = 4096;
+const ROOM: usize = 1024;
 
 // A number that has one digit more still fits 64 bits.
 const LIMIT: usize = 1000000000000000000;
@@ -79,7 +79,7 @@ fn print_number(word: &[u8], n: usize) {
 
 // A word, and bytes in capital digits behind it.
 fn print_bytes(word: &[u8], bytes: &[u8])
-    requires { ⌜ length (now bytes) ≤ 4096 ⌝ }
+    requires { ⌜ length (now bytes) ≤ 1024 ⌝ }
 {
     let mut digits = io::large_buffer();
     hex_write::put_pairs(&mut digits, 0, bytes);
@@ -126,7 +126,7 @@ fn print_state(session: Session) {
 
 // The state, and all that is lent.
 fn print_bench(bench: Bench, memory: &[u8], marks: &[u8])
-    requires { ⌜ (length (now memory) ≡ 4096) × (length (now marks) ≡ 4096) ⌝ }
+    requires { ⌜ (length (now memory) ≡ 1024) × (length (now marks) ≡ 1024) ⌝ }
 {
     let session = bench.session;
     let cells = marks::smaller(bench.cells, ROOM);
@@ -138,7 +138,7 @@ fn print_bench(bench: Bench, memory: &[u8], marks: &[u8])
 
 // Begins a load in the window that is lent.
 fn begin(bench: Bench, memory: &[u8], marks: &mut [u8]) -> Bench
-    requires { ⌜ (length (now memory) ≡ 4096) × (length (now marks) ≡ 4096) ⌝ }
+    requires { ⌜ (length (now memory) ≡ 1024) × (length (now marks) ≡ 1024) ⌝ }
 {
     let cells = marks::smaller(bench.cells, ROOM);
     let lent = marks::smaller(bench.marks, ROOM);
@@ -150,7 +150,7 @@ fn begin(bench: Bench, memory: &[u8], marks: &mut [u8]) -> Bench
 
 // Feeds a part.
 fn feed_part(bench: Bench, part: &[u8], memory: &mut [u8], marks: &mut [u8]) -> Bench
-    requires { ⌜ (length (now memory) ≡ 4096) × (length (now marks) ≡ 4096) ⌝ }
+    requires { ⌜ (length (now memory) ≡ 1024) × (length (now marks) ≡ 1024) ⌝ }
 {
     let session = bench.session;
     let cells = marks::smaller(bench.cells, ROOM);
@@ -169,7 +169,7 @@ fn feed_part(bench: Bench, part: &[u8], memory: &mut [u8], marks: &mut [u8]) -> 
 
 // Feeds so many of the characters that are left.
 fn feed_next(bench: Bench, n: usize, text: &[u8], memory: &mut [u8], marks: &mut [u8]) -> Bench
-    requires { ⌜ (length (now memory) ≡ 4096) × (length (now marks) ≡ 4096) ⌝ }
+    requires { ⌜ (length (now memory) ≡ 1024) × (length (now marks) ≡ 1024) ⌝ }
 {
     let at = marks::smaller(bench.at, text.len());
     let to = at + marks::smaller(n, text.len() - at);
@@ -180,7 +180,7 @@ fn feed_next(bench: Bench, n: usize, text: &[u8], memory: &mut [u8], marks: &mut
 
 // Feeds all characters that are left in parts of so many. Parts of none would never end.
 fn feed_rest(bench: Bench, size: usize, text: &[u8], memory: &mut [u8], marks: &mut [u8]) -> Bench
-    requires { ⌜ (length (now memory) ≡ 4096) × (length (now marks) ≡ 4096) ⌝ }
+    requires { ⌜ (length (now memory) ≡ 1024) × (length (now marks) ≡ 1024) ⌝ }
 {
     if size == 0 {
         return bench;
@@ -198,7 +198,7 @@ fn feed_rest(bench: Bench, size: usize, text: &[u8], memory: &mut [u8], marks: &
 
 // Ends a load and prints what it gives.
 fn end(bench: Bench, memory: &mut [u8], marks: &mut [u8]) -> Bench
-    requires { ⌜ (length (now memory) ≡ 4096) × (length (now marks) ≡ 4096) ⌝ }
+    requires { ⌜ (length (now memory) ≡ 1024) × (length (now marks) ≡ 1024) ⌝ }
 {
     let session = bench.session;
     let cells = marks::smaller(bench.cells, ROOM);
@@ -288,7 +288,7 @@ fn call(
     memory: &mut [u8],
     marks: &mut [u8],
 ) -> Bench
-    requires { ⌜ (length (now memory) ≡ 4096) × (length (now marks) ≡ 4096) ⌝ }
+    requires { ⌜ (length (now memory) ≡ 1024) × (length (now marks) ≡ 1024) ⌝ }
 {
     match letter {
         b'b' => return begin(bench, memory, marks),
@@ -309,7 +309,7 @@ fn call(
 
 // Runs one word: a letter, and up to two numbers with a colon between them.
 fn run_word(bench: Bench, word: &[u8], text: &[u8], memory: &mut [u8], marks: &mut [u8]) -> Bench
-    requires { ⌜ (length (now memory) ≡ 4096) × (length (now marks) ≡ 4096) ⌝ }
+    requires { ⌜ (length (now memory) ≡ 1024) × (length (now marks) ≡ 1024) ⌝ }
 {
     if word.len() == 0 {
         return bench;
@@ -324,7 +324,7 @@ fn run_word(bench: Bench, word: &[u8], text: &[u8], memory: &mut [u8], marks: &m
 
 // Runs the words of a case.
 fn run_words(bench: Bench, words: &[u8], text: &[u8], memory: &mut [u8], marks: &mut [u8])
-    requires { ⌜ (length (now memory) ≡ 4096) × (length (now marks) ≡ 4096) ⌝ }
+    requires { ⌜ (length (now memory) ≡ 1024) × (length (now marks) ≡ 1024) ⌝ }
 {
     let mut b = bench;
     let mut at: usize = 0;
@@ -339,7 +339,7 @@ fn run_words(bench: Bench, words: &[u8], text: &[u8], memory: &mut [u8], marks: 
 
 // Begins a load in buffers that were used before, and runs the words.
 fn run_lent(base: u32, cells: usize, words: &[u8], text: &[u8], memory: &mut [u8], marks: &mut [u8])
-    requires { ⌜ (cells ≤ 4096) × (length (now memory) ≡ 4096) × (length (now marks) ≡ 4096) ⌝ }
+    requires { ⌜ (cells ≤ 1024) × (length (now memory) ≡ 1024) × (length (now marks) ≡ 1024) ⌝ }
 {
     fill_cells(memory);
     fill_marks(marks);
@@ -362,8 +362,8 @@ fn run_window(table: &[u32; 256], heading: &[u8], words: &[u8], text: &[u8])
     let base = hex::number_of(table, &heading[1..9]);
     let size = hex::number_of(table, &heading[10..18]) as usize;
     let cells = marks::smaller(size, ROOM);
-    let mut memory = io::buffer();
-    let mut marks = io::buffer();
+    let mut memory = [0u8; ROOM];
+    let mut marks = [0u8; ROOM];
     run_lent(base, cells, words, text, &mut memory, &mut marks);
 }
 

@@ -6,7 +6,7 @@ use crate::script::{answer_line, refusal_words, ROOM as INPUT};
 use std::fmt::{self, Display, Formatter};
 
 /// The cells and the marks that `calls` can lend.
-pub const ROOM: usize = 4_096;
+pub const ROOM: usize = 1_024;
 
 /// What a case can do, in turn.
 #[derive(Clone, Copy, Debug, PartialEq, Eq)]

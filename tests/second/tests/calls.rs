@@ -34,7 +34,7 @@ fn script_is_parsed_whole() {
 fn words_are_told_apart() {
     let of = |words: &str| parse(format!("@0:4 name\n{words}\ntext").as_bytes());
     assert!(of("b f1 r2 e p k u m3:4 l5:6 a7 S8 T9 P1 H2 N3 R4 C5 L6 X7").is_some());
-    for words in ["g", "e1", "f", "fx", "m1", "l1", "T", "m9999:1", "l9999:1"] {
+    for words in ["g", "e1", "f", "fx", "m1", "l1", "T", "m1024:1", "l1025:1"] {
         assert_eq!(of(words), None, "{words}");
     }
 }

@@ -7,7 +7,7 @@ use Rattle.calls.proofs.feed_rest.Statement.{statement}
 use Rattle.calls.proofs.feed_rest.Tie as tie
 
 abbrev Inv-loop : tie.InvT-loop
-Inv-loop size text memory₀ marks₀ b₀ at₀ memory marks b at = (at ≤ length text) × (0 < size) × (length memory ≡ 4096) × (length marks ≡ 4096)
+Inv-loop size text memory₀ marks₀ b₀ at₀ memory marks b at = (at ≤ length text) × (0 < size) × (length memory ≡ 1024) × (length marks ≡ 1024)
 
 abbrev μ-loop : tie.MeasureT-loop
 μ-loop size text memory₀ marks₀ b₀ at₀ memory marks b at = length text - at

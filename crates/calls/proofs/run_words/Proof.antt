@@ -7,7 +7,7 @@ use Rattle.calls.proofs.run_words.Statement.{statement}
 use Rattle.calls.proofs.run_words.Tie as tie
 
 abbrev Inv-loop : tie.InvT-loop
-Inv-loop words text memory₀ marks₀ b₀ at₀ memory marks b at = (at ≤ length words) × (length memory ≡ 4096) × (length marks ≡ 4096)
+Inv-loop words text memory₀ marks₀ b₀ at₀ memory marks b at = (at ≤ length words) × (length memory ≡ 1024) × (length marks ≡ 1024)
 
 abbrev μ-loop : tie.MeasureT-loop
 μ-loop words text memory₀ marks₀ b₀ at₀ memory marks b at = length words - at
