@@ -1,7 +1,7 @@
 #!/usr/bin/env python3
 """Breaks things on purpose, once for each tests/breaks/KIND/NAME.edit, and sees that the tests notice.
 
-    python3 tests/breaks.py [NAME...]
+    python3 tests/breaks.py [NAME...]     a NAME is an edit's, or a KIND, for all edits of it and for none
 
 An edit of kind 'library' breaks a library: tests/second under the face of include/srec.h (breaks/library/face.rs), so no
 archive and no prover is needed. tests/compare must notice, or tests/c where that does not. An edit of kind 'answers' breaks
@@ -138,7 +138,8 @@ def main():
     results = []
     for kind in (library, answers, parts, calls):
         edits = [None, *sorted((BREAKS / kind.__name__).glob("*.edit"))]
-        results += [try_edit(kind, edit) for edit in edits if not names or edit and edit.stem in names]
+        whole = not names or kind.__name__ in names
+        results += [try_edit(kind, edit) for edit in edits if whole or edit and edit.stem in names]
     print(f"{sum(results)} passed, {len(results) - sum(results)} failed")
     return 0 if results and all(results) else 1
 

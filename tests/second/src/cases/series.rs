@@ -2,7 +2,7 @@
 
 use super::cuts::{any_parts, ways};
 use super::{load_case, Limits, LoadCase};
-use crate::calls::{Bench, Call, Case};
+use crate::calls::{Bench, Call, Case, ROOM};
 use crate::parts::{Number, MOST};
 use crate::random::Random;
 
@@ -196,7 +196,7 @@ fn other_lengths(random: &mut Random, series: &mut Series) {
         1 => length.saturating_sub(1),
         2 => length + 1,
         3 => length,
-        _ => random.size(0, 2 * length),
+        _ => random.size(0, ROOM.min(2 * length)),
     };
     let lent = other(random, cells);
     let lent_marks = if random.chance(1, 2) {
