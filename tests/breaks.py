@@ -117,7 +117,7 @@ def calls(edit, folder):
         apply(edit, folder / "crates")
     ran = subprocess.run(["rt", "try", "calls"], cwd=folder, stdout=subprocess.PIPE, stderr=subprocess.STDOUT)
     printed = ran.stdout.decode("utf-8", "replace")
-    found = re.findall(r"^(ok|FAIL): the native program (.*?) (?:ended|failed)", printed, re.MULTILINE)
+    found = re.findall(r"^(ok|FAIL): the native program (.*? (?:ended|failed))", printed, re.MULTILINE)
     if not found:
         sys.exit(f"{edit}: no program was compiled: {printed.strip().splitlines()[-1:]}")
     broken = [name for word, name in found if word == "FAIL"]
