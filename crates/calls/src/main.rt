@@ -11,7 +11,7 @@
 //     p       print                         u       use the state that was kept
 //
 // A capital letter overwrites a number of the state: S its size, T its total, P its place, H the characters held, N the number of
-// records, R of data records, C of cells, L the header's length, X the reason of the refusal.
+// records, R of data records, C of cells, L the header's length. X sets the refusal: its reason, with record 0 and place 0.
 //
 // An end prints the answer as `vectors` does. Behind it, and for `p`, the state is printed, and all cells and marks that are lent. Of
 // a refused state only the refusal counts.
@@ -238,16 +238,15 @@ fn overwrite_tally(session: Session, letter: u8, n: usize) -> Session {
 // The state with one of its own numbers overwritten.
 fn overwrite(session: Session, letter: u8, n: usize) -> Session {
     let mut s = session;
-    let mut refusal = s.refusal;
+    let refusal = window::refuse((n % 4294967296) as u32, 0, 0);
     match letter {
         b'S' => s.size = n,
         b'T' => s.total = n,
         b'P' => s.place = n,
         b'H' => s.held = n,
-        b'X' => refusal.reason = (n % 4294967296) as u32,
+        b'X' => s.refusal = refusal,
         _ => return overwrite_tally(session, letter, n),
     }
-    s.refusal = refusal;
     s
 }
 

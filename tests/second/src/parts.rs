@@ -51,7 +51,7 @@ pub enum Number {
     /// The length of the header.
     Head,
     Size,
-    /// The refusal number.
+    /// The refusal number; record, place and byte become 0 with it.
     Reason,
 }
 
@@ -91,9 +91,12 @@ impl State {
             Number::Head => self.head = value,
             Number::Size => self.size = value,
             Number::Reason => {
-                let before = self.refusal.unwrap_or_default();
                 let number = value as u32;
-                self.refusal = (number != 0).then_some(Refusal { number, ..before });
+                let refusal = Refusal {
+                    number,
+                    ..Refusal::default()
+                };
+                self.refusal = (number != 0).then_some(refusal);
             }
         }
     }
