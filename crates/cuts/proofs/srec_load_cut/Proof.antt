@@ -1,5 +1,5 @@
 -- `srec_load_cut` meets its contract: begun, fed the parts and ended.
-use mathlib.Core.Path.{_≡_, ap, _∙_}
+use mathlib.Core.Path.{ap, _∙_}
 use native.Mathlib.Omega.{arith}
 use Rattle.window.specs.declared.Loaded.{Loaded}
 use Rattle.window.specs.Windows.{windowOf}
