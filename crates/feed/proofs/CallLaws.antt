@@ -1,11 +1,11 @@
 -- A part: what is known behind rows 1 and 20, and one law for each answer of `feed` and `take_part`.
-use mathlib.Core.Path.{_≡_, sym, ap, _∙_}
+use mathlib.Core.Path.{_≡_, refl, sym, ap, _∙_, subst}
 use Prim.Native.Nat.{ℕ, suc, _+_, _-_, _≤_, _<_}
+use native.Mathlib.Nat.{add-zero}
 use native.Mathlib.Omega.{arith}
 use mathlib.Core.Bool.{true, false}
-use mathlib.Core.List.{List, [], _++_}
-use lib.ListN.{length, take, drop, length-append, length-take}
-use lib.Seq.{length-take-le}
+use mathlib.Core.List.{List, [], _∷_, _++_}
+use lib.ListN.{length, take, drop, length-append, length-take, length-map}
 use borrow.Author.Tests.{eq-eqb, ne-eqb, lt-ltb, le-ltb}
 use Rattle.window.specs.declared.Refusal.{Refusal}
 use Rattle.window.specs.Windows.{windowOf}
@@ -13,20 +13,20 @@ use Rattle.window.specs.Plans.{refusal}
 use Rattle.text.specs.Lines.{front}
 use Rattle.text.proofs.FindLaws.{front-take}
 use Rattle.srec.specs.Lines.{isEnd}
-use Rattle.parts.specs.Parts.{Known, Going, Status, Stage, stage, stopped, Turn, lineTurn, fed, most, row1Later, row20, feedIn}
+use Rattle.parts.specs.Parts.{Going, Status, Stage, stage, stopped, Turn, lineTurn, fed, most, row1Later, row20, feedIn}
 use Rattle.parts.specs.Parts.Status.{going}
 use Rattle.parts.specs.Parts.Turn.{halt, next}
 use Rattle.parts.specs.Stretches.{fresh, keptAll}
 use Rattle.parts.proofs.SoundLaws.{Sound, allowed-sound, roomy, TurnKeeps}
-use Rattle.parts.proofs.StretchLaws.{fed-stretch, line-first}
+use Rattle.parts.proofs.StretchLaws.{fed-stretch}
 use Rattle.intake.specs.declared.Tally.{Tally}
-use Rattle.intake.specs.Tallies.{knownOf, Roomy}
+use Rattle.intake.specs.Tallies.{knownOf}
 use Rattle.session.specs.declared.Session.{Session}
 use Rattle.session.specs.Sessions.{goingOf, statusOf}
 use Rattle.session.proofs.SessionLaws.{shows-going}
 use Rattle.feed.specs.declared.Rest.{Rest}
 use Rattle.feed.specs.Feeds.{Few, behind}
-use Rattle.feed.proofs.TurnLaws.{lineHeld, turnOf, turn-halts, turn-goes, turn-keeps}
+use Rattle.feed.proofs.TurnLaws.{front-free, lineHeld, turnOf, turn-halts, turn-goes, turn-keeps}
 use Rattle.feed.proofs.SettleLaws.{same-status, same-marks, own-memory}
 
 -- a stage that is known, part by part
@@ -34,12 +34,6 @@ pub shows : {x y : Stage} {status : Status} {memory marks : List ℕ} → x ≡ 
     → (status ≡ x .status) × ((memory ≡ x .memory) × (marks ≡ x .marks))
 shows e a m k =
     (a ∙ sym (ap (λ (w : Stage). w .status) e), (m ∙ sym (ap (λ (w : Stage). w .memory) e), k ∙ sym (ap (λ (w : Stage). w .marks) e)))
-
--- none are held: the line stands in its part
-pub line-alone : (base place : ℕ) (memory marks : List ℕ) (k : Known) (held : ℕ) (line chars : List ℕ) → held ≡ 0
-    → lineTurn base place (take 515 (take held line ++ chars)) memory marks k ≡ lineTurn base place chars memory marks k
-line-alone base place memory marks k held line chars z =
-    ap (λ (n : ℕ). lineTurn base place (take 515 (take n line ++ chars)) memory marks k) z ∙ line-first base memory marks place chars k
 
 -- ---- the rows of a call
 
@@ -87,7 +81,7 @@ pub record Reading : Type 0 where
   pub memory : List ℕ
   pub marks : List ℕ
   pub part : List ℕ
-  pub long : length (session .line) ≡ 515
+  pub long : length (session .line) ≡ 516
   pub allowed : row1Later (windowOf base memory marks) (goingOf session) ≡ false
   pub fits : row20 (goingOf session) part ≡ false
 
@@ -114,7 +108,7 @@ module _ (p : Reading) where
   read = fed base (stage (going g) memory marks) part
 
   short : length (g .held) ≤ 515
-  short = rw length-take (omega (arith, p .long))
+  short = rw (length-map, length-take) (omega arith)
 
   sound : Sound base g memory marks (length part + 0)
   sound = roomy base g memory marks part (allowed-sound base g memory marks (p .allowed)) (p .fits)
@@ -131,6 +125,47 @@ module _ (p : Reading) where
   read-kept e r z q =
       fed-stretch base memory marks part g short e ∙ ap (λ (x : Status). stage x memory marks) (sym (shows-going r z ∙ ap going q))
 
+  -- its numbers are small
+  pub few-now : Few (s .tally .state) (s .place) 516
+  few-now =
+      let o = sound in
+      (o .number, o .records, o .cells, omega (arith, o .begins, o .few))
+
+  -- nothing is held: its lines begin with it
+  module _ (none : s .place ≡ s .total) where
+    pub few-all : Few (s .tally .state) (s .total + 0) (length part - 0)
+    few-all =
+        let o = sound in (
+          omega (arith, o .number, o .begins),
+          omega (arith, o .records, o .begins),
+          omega (arith, o .cells, o .begins),
+          omega (arith, o .few),
+        )
+
+    fresh-now : g ≡ fresh (length memory) (s .total + 0) (knownOf (s .tally) (s .header))
+    fresh-now =
+        let o = sound in
+        let z : length (g .held) ≡ 0 = omega (arith, o .begins) in
+        λ i. record {
+          size = sym (o .memory-long) i;
+          total = sym (add-zero (s .total)) i;
+          known = g .known;
+          place = (none ∙ sym (add-zero (s .total))) i;
+          held = empty (g .held) z i;
+        }
+      where
+        empty : (l : List ℕ) → length l ≡ 0 → l ≡ []
+        empty [] e = refl
+        empty (x ∷ l) e = absurd (omega arith)
+
+    pub all-goes : (r : Rest) (header′ memory′ marks′ : List ℕ)
+        → fed base (stage (going (fresh (length memory) (s .total + 0) (knownOf (s .tally) (s .header)))) memory marks) part
+        ≡ behind (length memory) (s .total) header′ part r memory′ marks′
+        → read ≡ behind (s .size) (s .total) header′ part r memory′ marks′
+    all-goes r header′ memory′ marks′ q =
+        ap (λ (x : Going). fed base (stage (going x) memory marks) part) fresh-now ∙ q
+        ∙ ap (λ (n : ℕ). behind n (s .total) header′ part r memory′ marks′) (sound .memory-long)
+
   -- a line ends in it
   module _ (first : ℕ) (first-is : first ≡ length (front isEnd part)) (ends : first < length part) where
     -- the characters before the first line end
@@ -145,18 +180,14 @@ module _ (p : Reading) where
 
     -- the turn of that line
     abbrev turn : Turn
-    turn = lineTurn base (s .place) (take 515 (take (s .held) (s .line) ++ chars)) memory marks (knownOf (s .tally) (s .header))
+    turn = lineTurn base (s .place) (take 515 (g .held ++ chars)) memory marks (knownOf (s .tally) (s .header))
 
     turn-is : turnOf base memory marks g short part ends-in ≡ turn
     turn-is = ap (λ (x : List ℕ). lineTurn base (s .place) (take 515 (g .held ++ x)) memory marks (g .known)) chars-are
 
-    pub first-roomy : Roomy (s .place) (s .tally .state) (515 + length chars)
-    first-roomy =
-        let l : length chars ≡ first = length-take-le first part (omega arith) in
-        let o = sound in (
-          omega (arith, o .begins, o .few, l),
-          (omega (arith, o .number, o .begins, o .few, l), omega (arith, o .records, o .begins, o .few, l), omega (arith, o .cells, o .begins, o .few, l)),
-        )
+    -- none of them ends a line
+    pub chars-free : front isEnd chars ≡ chars
+    chars-free = subst (λ (x : List ℕ). front isEnd x ≡ x) chars-are (front-free part)
 
     -- it is refused, for a reason
     module _ (f : Refusal) (h : turn ≡ halt f) where

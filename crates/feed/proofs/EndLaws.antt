@@ -1,10 +1,11 @@
 -- The end of a load in parts: one law for each answer of `finish`.
 use mathlib.Core.Path.{_≡_, sym, ap, _∙_, subst}
-use Prim.Native.Nat.{ℕ, _<_, min}
+use Prim.Native.Nat.{ℕ, _<_}
 use native.Mathlib.Omega.{arith}
 use mathlib.Core.Bool.{true, false}
-use mathlib.Core.List.{List}
-use lib.ListN.{length, take}
+use mathlib.Core.List.{List, [], _++_, append-nil}
+use lib.ListN.{length, take, length-take, length-map}
+use lib.Seq.{take-all}
 use borrow.Author.Tests.{eq-eqb, ne-eqb}
 use Rattle.window.specs.declared.Refusal.{Refusal}
 use Rattle.window.specs.Windows.{windowOf}
@@ -15,10 +16,10 @@ use Rattle.parts.specs.Parts.Turn.{halt, next}
 use Rattle.parts.specs.Stretches.{fresh}
 use Rattle.parts.proofs.SoundLaws.{Sound, allowed-sound, TurnKeeps, line-keeps}
 use Rattle.intake.specs.declared.Tally.{Tally}
-use Rattle.intake.specs.Tallies.{knownOf, Roomy}
+use Rattle.intake.specs.Tallies.{knownOf}
 use Rattle.session.specs.declared.Session.{Session}
 use Rattle.session.specs.Sessions.{goingOf, statusOf}
-use Rattle.session.proofs.HoldLaws.{take-within}
+use Rattle.feed.specs.Feeds.{Few}
 
 module _ (s : Session) (base : ℕ) (memory marks : List ℕ) where
   -- an earlier refusal stays
@@ -30,7 +31,7 @@ module _ (s : Session) (base : ℕ) (memory marks : List ℕ) where
       → endIn (statusOf s) (windowOf base memory marks) ≡ stopped (refusal 1 0 0) memory marks
   end-barred z q = rw (eq-eqb (s .refusal .reason) 0 z, q)
 
--- what is known where the record that is not complete is read: its n characters are in the line
+-- what is known where the record that is not complete is read
 pub record Closing : Type 0 where
   pub session : Session
   pub base : ℕ
@@ -38,9 +39,6 @@ pub record Closing : Type 0 where
   pub marks : List ℕ
   pub goes : session .refusal .reason ≡ 0
   pub allowed : row1Later (windowOf base memory marks) (goingOf session) ≡ false
-  pub n : ℕ
-  pub n-is : n ≡ min (session .held) 515
-  pub long : length (session .line) ≡ 515
 
 module _ (p : Closing) where
   abbrev s : Session
@@ -62,15 +60,15 @@ module _ (p : Closing) where
   abbrev pub ended : Stage
   ended = endIn (statusOf s) (windowOf base memory marks)
 
-  -- the characters that are held, and their turn
+  -- the characters that are held, with none behind them, and their turn
   abbrev chars : List ℕ
-  chars = take (p .n) (s .line)
+  chars = take 515 (g .held ++ [])
 
   abbrev turn : Turn
   turn = lineTurn base (s .place) chars memory marks (knownOf (s .tally) (s .header))
 
   held-are : g .held ≡ chars
-  held-are = take-within (s .line) 515 (p .n) (s .held) (p .long) (p .n-is)
+  held-are = sym (ap (take 515) (append-nil (g .held)) ∙ take-all 515 (g .held) (rw (length-map, length-take) (omega arith)))
 
   sound : Sound base g memory marks 0
   sound = allowed-sound base g memory marks (p .allowed)
@@ -78,13 +76,11 @@ module _ (p : Closing) where
   pub same-length : length memory ≡ length marks
   same-length = sound .memory-long ∙ sym (sound .marks-long)
 
-  pub last-roomy : Roomy (s .place) (s .tally .state) (length chars)
-  last-roomy =
+  -- its numbers are small
+  pub few-now : Few (s .tally .state) (s .place) 516
+  few-now =
       let o = sound in
-      let l : length (g .held) ≡ length chars = ap length held-are in (
-        omega (arith, o .begins, o .few, l),
-        (omega (arith, o .number, o .begins, o .few, l), omega (arith, o .records, o .begins, o .few, l), omega (arith, o .cells, o .begins, o .few, l)),
-      )
+      (o .number, o .records, o .cells, omega (arith, o .begins, o .few))
 
   turned : (t : Turn) → turn ≡ t → ended ≡ conclude (afterTurn g memory marks t)
   turned t h =

@@ -1,6 +1,6 @@
 -- The lines of a part one after the other: one law for each way out of the loop of `take_lines`, and one for the way round.
 use mathlib.Core.Path.{_≡_, sym, ap, _∙_, subst}
-use Prim.Native.Nat.{ℕ, suc, _+_, _-_, _≤_, _<_}
+use Prim.Native.Nat.{ℕ, suc, _+_, _-_, _^_, _≤_, _<_}
 use native.Mathlib.Omega.{arith}
 use mathlib.Core.List.{List, []}
 use lib.Dec.{ltb}
@@ -18,7 +18,7 @@ use Rattle.text.specs.Steps.{stateWith, asStep}
 use Rattle.text.proofs.FindLaws.{part, front-take, shorter, some-char}
 use Rattle.srec.specs.Lines.{isEnd}
 use Rattle.srec.specs.Formats.{srec}
-use Rattle.parts.specs.Parts.{Going, Stage, stage, stopped, recordTurn, lineTurn, fed, most}
+use Rattle.parts.specs.Parts.{Going, Stage, stage, stopped, recordTurn, lineTurn, fed}
 use Rattle.parts.specs.Parts.Status.{going}
 use Rattle.parts.specs.Parts.Turn.{halt, next}
 use Rattle.parts.specs.Stretches.{fresh, keptAll}
@@ -28,7 +28,7 @@ use Rattle.intake.specs.Tallies.{stateOf, entryOf, knownOf, Roomy}
 use Rattle.intake.specs.Takes.{beginOf, endOf, nextIn}
 use Rattle.intake.proofs.RecordLaws.{some-line}
 use Rattle.feed.specs.Feeds.{Few}
-use Rattle.feed.proofs.TurnLaws.{lineHeld, turnOf, turn-halts, turn-goes, turn-keeps}
+use Rattle.feed.proofs.TurnLaws.{all-free, lineHeld, turnOf, turn-halts, turn-goes, turn-keeps}
 
 -- ---- what `take_next` says
 
@@ -105,14 +105,21 @@ module _ {base size total : ℕ} {text : List ℕ} {w : Stage} {memory marks : L
       sym (x .left) ∙ fed-ends base memory marks (drop at text) size (total + at) (knownOf t header)
       ∙ (λ i. fed base (stage (going (fresh size (e i) (knownOf t header))) memory marks) ((drop-drop n at text ∙ ap (λ (j : ℕ). drop j text) (sym b)) i))
 
-  -- no line that ends in the part is left: the characters behind the last line end
+  -- no line that ends in the part is left
+  open-long : Nothing ≡ nextIn total (t .state) text at → (from : ℕ) → from ≡ beginOf text at
+      → length (front isEnd (drop from text)) ≡ length (drop from text)
+  open-long q from b =
+      let l : length text ≤ endOf text from = subst (λ (j : ℕ). length text ≤ endOf text j) (sym b) (none-next total (t .state) text at q) in
+      omega (arith, shorter isEnd (drop from text), length-drop from text)
+
+  -- the characters behind the last line end are kept
   pub left-open : Nothing ≡ nextIn total (t .state) text at → (from : ℕ) → from ≡ beginOf text at
       → w ≡ stage (going (keptAll (here from) (drop from text))) memory marks
-  left-open q from b =
-      let l : length text ≤ endOf text from = subst (λ (j : ℕ). length text ≤ endOf text j) (sym b) (none-next total (t .state) text at q) in
-      let e : length (front isEnd (drop from text)) ≡ length (drop from text)
-      = omega (arith, shorter isEnd (drop from text), length-drop from text) in
-      to-begin from b ∙ fed-stretch base memory marks (drop from text) (here from) (omega arith) e
+  left-open q from b = to-begin from b ∙ fed-stretch base memory marks (drop from text) (here from) (omega arith) (open-long q from b)
+
+  -- none of them ends a line
+  pub open-free : Nothing ≡ nextIn total (t .state) text at → (from : ℕ) → from ≡ beginOf text at → front isEnd (drop from text) ≡ drop from text
+  open-free q from b = all-free (drop from text) (open-long q from b)
 
   -- a line that ends in the part
   module _ {from to : ℕ} {step : Step} (n : IsNext total (t .state) text at from to step) where
@@ -144,7 +151,7 @@ module _ {base size total : ℕ} {text : List ℕ} {w : Stage} {memory marks : L
         ∙ some-line base (total + from) memory marks (knownOf t header) (part text from to) some-chars
 
     -- its numbers fit
-    pub number-fits : t .state .number + 1 ≤ most
+    pub number-fits : t .state .number + 1 < 2 ^ 64
     number-fits = omega (arith, x .few .0, x .few .3, n .begins, n .ends, n .inside)
 
     -- it is refused, for a reason

@@ -5,6 +5,8 @@ use mathlib.Core.List.{List, []}
 use lib.ListN.{length, take, drop, replicate}
 use Rattle.lists.proofs.PartLaws.{rest}
 use Rattle.window.specs.declared.Refusal.{Refusal}
+use Rattle.text.specs.Lines.{front}
+use Rattle.srec.specs.Lines.{isEnd}
 use Rattle.parts.specs.Parts.{Status}
 use Rattle.parts.specs.Parts.Status.{going, halted}
 use Rattle.parts.specs.Stretches.{fresh, keptAll}
@@ -18,11 +20,12 @@ use Rattle.feed.specs.declared.Rest.the-variants.{Refused, From}
 use Rattle.feed.specs.Feeds.{behind, RestIn}
 
 -- what is known of a refusal, and of a place
-pub rest-reason : (n : ℕ) (r : Rest) (f : Refusal) → r ≡ Refused f → RestIn n r → 0 < f .reason
-rest-reason n r f e h = subst (RestIn n) e h
+pub rest-reason : (part : List ℕ) (r : Rest) (f : Refusal) → r ≡ Refused f → RestIn part r → 0 < f .reason
+rest-reason part r f e h = subst (RestIn part) e h
 
-pub rest-inside : (n : ℕ) (r : Rest) (from : ℕ) (t : Tally) → r ≡ From from t → RestIn n r → from ≤ n
-rest-inside n r from t e h = subst (RestIn n) e h
+pub rest-inside : (part : List ℕ) (r : Rest) (from : ℕ) (t : Tally) → r ≡ From from t → RestIn part r
+    → (from ≤ length part) × (front isEnd (drop from part) ≡ drop from part)
+rest-inside part r from t e h = subst (RestIn part) e h
 
 module _ (size total : ℕ) (header part marks : List ℕ) (r : Rest) where
   -- a refusal

@@ -8,8 +8,8 @@ use window::Loaded;
 use window::Refusal;
 ghost use mathlib.Core.Path.{_≡_};
 ghost use mathlib.Core.Bool.{false};
-ghost use mathlib.Core.List.{[], _++_};
-ghost use Prim.Native.Nat.{_+_, _-_, _^_, _≤_, _<_};
+ghost use mathlib.Core.List.{[], _++_, map};
+ghost use Prim.Native.Nat.{_+_, _-_, _^_, _≤_, _<_, min};
 ghost use lib.ListN.{length, take, drop};
 ghost use Rattle.hex.specs.Tables.{digitTable};
 ghost use Rattle.window.specs.Windows.{windowOf};
@@ -18,9 +18,9 @@ ghost use Rattle.srec.specs.Lines.{isEnd};
 ghost use Rattle.parts.specs.Parts.{stage, lineTurn, fed, row1Later, row20, feedIn, endIn, answered};
 ghost use Rattle.parts.specs.Parts.Status.{going};
 ghost use Rattle.parts.specs.Stretches.{fresh};
-ghost use Rattle.intake.specs.Tallies.{knownOf, Took, Roomy};
-ghost use Rattle.session.specs.Sessions.{goingOf, statusOf};
-ghost use Rattle.feed.specs.Feeds.{Few, behind, RestIn};
+ghost use Rattle.intake.specs.Tallies.{knownOf, Took};
+ghost use Rattle.session.specs.Sessions.{visible, goingOf, statusOf};
+ghost use Rattle.feed.specs.Feeds.{Few, behind, RestIn, turnAs};
 
 // What the lines of a part come to whose ends stand in it: a refusal; or where the characters behind the last line end begin, and the
 // records so far.
@@ -33,29 +33,6 @@ pub enum Rest {
 pub struct Ended {
     pub loaded: Loaded,
     pub session: Session,
-}
-
-// The record that is not complete ends behind these characters. Where none are held it is read where it stands.
-fn close_line(
-    table: &[u32; 256],
-    line: &mut [u8],
-    held: usize,
-    chars: &[u8],
-    place: usize,
-    base: usize,
-    tally: Tally,
-    header: &mut [u8],
-    memory: &mut [u8],
-    marks: &mut [u8],
-) -> Turn
-    requires { ⌜ (now table ≡ digitTable) × (length (now line) ≡ 515) × (length (now memory) ≡ length (now marks)) × (length (now header) ≡ 252) × Roomy place (tally .state) (515 + length (now chars)) ⌝ }
-    ensures { λ r. ⌜ Took (lineTurn base place (take 515 (take held (now (line .entry)) ++ now (chars .entry))) (now (memory .entry)) (now (marks .entry)) (knownOf tally (now (header .entry)))) r (now (header .exit)) (now (memory .exit)) (now (marks .exit)) (now (memory .entry)) ⌝ }
-{
-    if held == 0 {
-        return intake::take_line(table, chars, place, base, tally, header, memory, marks);
-    }
-    let n = session::hold(line, held, chars);
-    intake::take_line(table, &line[..n], place, base, tally, header, memory, marks)
 }
 
 // Takes the lines of a part from a place on whose ends stand in it, each where it stands.
@@ -71,7 +48,7 @@ fn take_lines(
     marks: &mut [u8],
 ) -> Rest
     requires { ⌜ (now table ≡ digitTable) × (first ≤ length (now part)) × (length (now memory) ≡ length (now marks)) × (length (now header) ≡ 252) × Few (tally .state) (total + first) (length (now part) - first) ⌝ }
-    ensures { λ r. ⌜ (fed base (stage (going (fresh (length (now (memory .entry))) (total + first) (knownOf tally (now (header .entry))))) (now (memory .entry)) (now (marks .entry))) (drop first (now (part .entry))) ≡ behind (length (now (memory .entry))) total (now (header .exit)) (now (part .entry)) r (now (memory .exit)) (now (marks .exit))) × RestIn (length (now (part .entry))) r ⌝ }
+    ensures { λ r. ⌜ (fed base (stage (going (fresh (length (now (memory .entry))) (total + first) (knownOf tally (now (header .entry))))) (now (memory .entry)) (now (marks .entry))) (drop first (now (part .entry))) ≡ behind (length (now (memory .entry))) total (now (header .exit)) (now (part .entry)) r (now (memory .exit)) (now (marks .exit))) × RestIn (now (part .entry)) r ⌝ }
 {
     let mut now = tally;
     let mut at = first;
@@ -104,9 +81,53 @@ fn take_lines(
     }
 }
 
+// What the lines of a part came to, without what is left of it.
+fn turn_of(rest: Rest) -> Turn
+    ensures { λ r. ⌜ r ≡ turnAs rest ⌝ }
+{
+    match rest {
+        Rest::Refused(refusal) => Turn::Refused(refusal),
+        Rest::From(_, tally) => Turn::Next(tally),
+    }
+}
+
+// The record that is not complete ends behind these characters: what is held of it, with a line end, is taken as a part.
+fn close_line(
+    table: &[u32; 256],
+    line: &mut [u8],
+    held: usize,
+    chars: &[u8],
+    place: usize,
+    base: usize,
+    tally: Tally,
+    header: &mut [u8],
+    memory: &mut [u8],
+    marks: &mut [u8],
+) -> Turn
+    requires { ⌜ (now table ≡ digitTable) × (length (now line) ≡ 516) × (length (now memory) ≡ length (now marks)) × (length (now header) ≡ 252) × Few (tally .state) place 516 × (front isEnd (now chars) ≡ now chars) ⌝ }
+    ensures { λ r. ⌜ Took (lineTurn base place (take 515 (map visible (take (min held 515) (now (line .entry))) ++ now (chars .entry))) (now (memory .entry)) (now (marks .entry)) (knownOf tally (now (header .entry)))) r (now (header .exit)) (now (memory .exit)) (now (marks .exit)) (now (memory .entry)) ⌝ }
+{
+    let n = session::hold(line, held, chars);
+    session::hide_ends(&mut line[..n]);
+    line[n] = b'\n';
+    let end = n + 1;
+    let rest = take_lines(
+        table,
+        &line[..end],
+        0,
+        place,
+        base,
+        tally,
+        header,
+        memory,
+        marks,
+    );
+    turn_of(rest)
+}
+
 // The state behind the lines of a part whose ends stand in it: the characters behind them are held.
 fn settle(session: Session, header: [u8; 252], rest: Rest, part: &[u8], marks: &mut [u8]) -> Session
-    requires { ⌜ (session .refusal .reason ≡ 0) × (session .total + length (now part) < 2 ^ 64) × RestIn (length (now part)) rest ⌝ }
+    requires { ⌜ (session .refusal .reason ≡ 0) × (session .total + length (now part) < 2 ^ 64) × RestIn (now part) rest ⌝ }
     ensures status { λ r. ⌜ statusOf r ≡ behind (session .size) (session .total) header (now (part .entry)) rest [] (now (marks .entry)) .status ⌝ }
     ensures marks { λ _. ⌜ now (marks .exit) ≡ behind (session .size) (session .total) header (now (part .entry)) rest [] (now (marks .entry)) .marks ⌝ }
 {
@@ -138,6 +159,21 @@ fn take_part(
     let total = session.total;
     let tally = session.tally;
     let mut header = session.header;
+    // nothing is held
+    if session.place == total {
+        let rest = take_lines(
+            &table,
+            part,
+            0,
+            total,
+            base,
+            tally,
+            &mut header,
+            memory,
+            marks,
+        );
+        return settle(session, header, rest, part, marks);
+    }
     let mut line = session.line;
     let turn = close_line(
         &table,
@@ -220,11 +256,13 @@ fn finish(session: Session, base: u32, memory: &mut [u8], marks: &mut [u8]) -> S
     let total = session.total;
     let tally = session.tally;
     let mut header = session.header;
-    let line = session.line;
-    let n = marks::smaller(session.held, session::HELD);
-    let turn = intake::take_line(
+    let mut line = session.line;
+    let none = [0u8; 0];
+    let turn = close_line(
         &table,
-        &line[..n],
+        &mut line,
+        session.held,
+        &none,
         session.place,
         base as usize,
         tally,

@@ -2,7 +2,6 @@
 use mathlib.Core.Path.{_≡_, refl, sym, ap, _∙_, subst}
 use Prim.Native.Nat.{ℕ, suc, _+_, _-_}
 use native.Mathlib.Numerals.{add-one}
-use native.Mathlib.Omega.{arith}
 use mathlib.Core.Bool.{true, false}
 use mathlib.Core.List.{List, [], _∷_}
 use mathlib.Core.Logic.{⊎-elim}
@@ -35,15 +34,8 @@ use Rattle.parts.proofs.SoundLaws.{granted-inside}
 use Rattle.intake.specs.declared.Tally.{Tally}
 use Rattle.intake.specs.Tallies.{stateOf, entryOf, knownOf, IsGood}
 
--- ---- lines
-
 module _ (base place : ℕ) (memory marks : List ℕ) (k : Known) where
-  -- an empty line makes no record
-  pub empty-line : (chars : List ℕ) → length chars ≡ 0 → lineTurn base place chars memory marks k ≡ next k memory marks
-  empty-line [] e = refl
-  empty-line (c ∷ cs) e = absurd (omega arith)
-
-  -- another is a record
+  -- a line that is not empty is a record
   pub some-line : (chars : List ℕ) → (length chars ≡ 0 → ⊥)
       → lineTurn base place chars memory marks k ≡ recordTurn base place chars memory marks (k .state) (k .entry)
   some-line [] z = absurd (z refl)

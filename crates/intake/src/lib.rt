@@ -19,8 +19,8 @@ ghost use Rattle.text.specs.Terms.{headerIn};
 ghost use Rattle.srec.specs.Reading.{read};
 ghost use Rattle.srec.specs.Judging.{carried};
 ghost use Rattle.srec.specs.Formats.{srec};
-ghost use Rattle.parts.specs.Parts.{recordTurn, lineTurn};
-ghost use Rattle.intake.specs.Tallies.{stateOf, entryOf, knownOf, IsGood, Took, Roomy};
+ghost use Rattle.parts.specs.Parts.{recordTurn};
+ghost use Rattle.intake.specs.Tallies.{stateOf, entryOf, IsGood, Took, Roomy};
 ghost use Rattle.intake.specs.Takes.{nextIn};
 
 // What the records read so far say: their numbers, the length of the header, and once a terminator was read its entry.
@@ -111,38 +111,6 @@ pub fn take_step(
             return Turn::Next(going_on(next, head));
         }
     }
-}
-
-// One line at a place, which is complete: an empty one makes no record.
-pub fn take_line(
-    table: &[u32; 256],
-    chars: &[u8],
-    place: usize,
-    base: usize,
-    tally: Tally,
-    header: &mut [u8],
-    memory: &mut [u8],
-    marks: &mut [u8],
-) -> Turn
-    requires { ⌜ (now table ≡ digitTable) × (length (now memory) ≡ length (now marks)) × (length (now header) ≡ 252) × Roomy place (tally .state) (length (now chars)) ⌝ }
-    ensures { λ r. ⌜ Took (lineTurn base place (now (chars .entry)) (now (memory .entry)) (now (marks .entry)) (knownOf tally (now (header .entry)))) r (now (header .exit)) (now (memory .exit)) (now (marks .exit)) (now (memory .entry)) ⌝ }
-{
-    if chars.len() == 0 {
-        return Turn::Next(tally);
-    }
-    let state = tally.state;
-    let step = srec_step::step_of(table, state, chars, place);
-    take_step(
-        table,
-        step,
-        chars,
-        place,
-        base,
-        tally,
-        header,
-        memory,
-        marks,
-    )
 }
 
 // The next line of a part whose end stands in it, by looking for that end.

@@ -12,10 +12,10 @@ use Rattle.lists.proofs.PartLaws.{take-least}
 pub take-within : (xs : List ℕ) (most n len : ℕ) → length xs ≡ most → n ≡ min len most → take len xs ≡ take n xs
 take-within xs most n len long e = sym (ap (λ (j : ℕ). take j xs) (e ∙ ap (λ (m : ℕ). min len m) (sym long)) ∙ take-least len xs)
 
-module _ (line : List ℕ) (long : length line ≡ 515) (held : ℕ) (chars : List ℕ) where
+module _ (line : List ℕ) (long : length line ≡ 516) (held : ℕ) (chars : List ℕ) where
   -- the line behind a copy: those that were held, those that came, and what stood behind them
   pub held-now : (from count k : ℕ) (part rest : List ℕ) → from ≡ min held 515 → count ≡ min (length chars) (515 - from)
-      → part ≡ take (length (take count chars)) (take count chars) ++ rest → take (from + count) (putMid from k line part) ≡ take 515 (take held line ++ chars)
+      → part ≡ take (length (take count chars)) (take count chars) ++ rest → take (from + count) (putMid from k line part) ≡ take 515 (take (min held 515) line ++ chars)
   held-now from count k part rest p q e =
       let f : length (take from line) ≡ from = length-take-le from line (omega arith) in
       let c : length (take count chars) ≡ count = length-take-le count chars (omega arith) in
@@ -29,5 +29,5 @@ module _ (line : List ℕ) (long : length line ≡ 515) (held : ℕ) (chars : Li
       ∙ take-at (take from line ++ take count chars) (rest ++ t) (from + count)
       (length-append (take from line) (take count chars) ∙ omega (arith, f, c))
       ∙ ap (λ (x : List ℕ). take from line ++ x) (sym (take-within chars (length chars) count (515 - from) refl room))
-      ∙ sym (ap (λ (x : List ℕ). take 515 (x ++ chars)) (take-within line 515 from held long p)
+      ∙ sym (ap (λ (n : ℕ). take 515 (take n line ++ chars)) (sym p)
       ∙ ap (λ (i : ℕ). take i (take from line ++ chars)) w ∙ take-append-add (take from line) chars (515 - from))

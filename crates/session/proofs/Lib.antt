@@ -1,2 +1,3 @@
 pub mod HoldLaws
+pub mod VisibleLaws
 pub mod SessionLaws

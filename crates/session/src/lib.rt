@@ -1,19 +1,22 @@
 // The state of a load in parts between two calls: how it begins, keeps characters, is refused, and answers.
+use formats::Format;
 use intake::Tally;
 use window::Header;
 use window::Loaded;
 use window::Refusal;
 ghost use mathlib.Core.Path.{_≡_};
-ghost use mathlib.Core.List.{_++_};
-ghost use Prim.Native.Nat.{_+_, _^_, _≤_, _<_};
+ghost use mathlib.Core.List.{_++_, map};
+ghost use Prim.Native.Nat.{_+_, _^_, _≤_, _<_, min};
 ghost use lib.ListN.{length, take, replicate};
 ghost use Rattle.window.specs.Windows.{windowOf};
+ghost use Rattle.text.specs.Lines.{front};
 ghost use Rattle.text.specs.Load.{headerOf};
+ghost use Rattle.srec.specs.Lines.{isEnd};
 ghost use Rattle.parts.specs.Parts.{begun, possible, row1Later, answered};
 ghost use Rattle.parts.specs.Parts.Status.{halted};
 ghost use Rattle.parts.specs.Stretches.{fresh, keptAll};
 ghost use Rattle.intake.specs.Tallies.{knownOf};
-ghost use Rattle.session.specs.Sessions.{goingOf, statusOf};
+ghost use Rattle.session.specs.Sessions.{visible, goingOf, statusOf};
 
 // The most characters that a load in parts takes.
 pub const MOST: usize = 4294967295;
@@ -26,8 +29,8 @@ const MOST_HEADER: usize = 252;
 
 // The state that a call gives out and the next one takes. Of a refused load, whose refusal has a reason other than 0, nothing but the
 // refusal counts. Otherwise `size` is the number of cells at begin, `total` that of the characters so far; `line` has the first
-// `held` characters of the record that is not complete, which begins at `place`, and `header` the first `tally.head` bytes of the
-// header. What stands behind those, and an entry before a terminator, may be anything.
+// `held` characters of the record that is not complete, at most 515, which begins at `place`, and room for a line end; `header` has the
+// first `tally.head` bytes of the header. What stands behind those, and an entry before a terminator, may be anything.
 pub struct Session {
     pub refusal: Refusal,
     pub size: usize,
@@ -36,13 +39,24 @@ pub struct Session {
     pub tally: Tally,
     pub header: [u8; 252],
     pub held: usize,
-    pub line: [u8; 515],
+    pub line: [u8; 516],
+}
+
+// A held character, NUL for a line end.
+fn seen(c: u8) -> u8
+    ensures { λ r. ⌜ r ≡ visible c ⌝ }
+{
+    if formats::is_gap(Format::Records, c) {
+        0
+    } else {
+        c
+    }
 }
 
 // Adds characters to those of the record that is not complete, of which the first 515 are held, and answers how many are held now.
 pub fn hold(line: &mut [u8], held: usize, chars: &[u8]) -> usize
-    requires { ⌜ length (now line) ≡ 515 ⌝ }
-    ensures { λ r. ⌜ (take r (now (line .exit)) ≡ take 515 (take held (now (line .entry)) ++ now (chars .entry))) × (r ≤ 515) ⌝ }
+    requires { ⌜ length (now line) ≡ 516 ⌝ }
+    ensures { λ r. ⌜ (take r (now (line .exit)) ≡ take 515 (take (min held 515) (now (line .entry)) ++ now (chars .entry))) × (r ≤ 515) ⌝ }
 {
     let from = marks::smaller(held, HELD);
     let count = marks::smaller(chars.len(), HELD - from);
@@ -50,9 +64,20 @@ pub fn hold(line: &mut [u8], held: usize, chars: &[u8]) -> usize
     from + count
 }
 
+// Puts NUL in place of each line end among held characters: only a state that no call gave out has one there.
+pub fn hide_ends(chars: &mut [u8])
+    ensures { λ _. ⌜ now (chars .exit) ≡ map visible (now (chars .entry)) ⌝ }
+{
+    let mut i: usize = 0;
+    while i < chars.len() {
+        chars[i] = seen(chars[i]);
+        i += 1;
+    }
+}
+
 // The state with characters more, none of which ends a line.
 pub fn keep(session: Session, chars: &[u8]) -> Session
-    requires { ⌜ session .total + length (now chars) < 2 ^ 64 ⌝ }
+    requires { ⌜ (session .total + length (now chars) < 2 ^ 64) × (front isEnd (now chars) ≡ now chars) ⌝ }
     ensures { λ r. ⌜ (r .refusal ≡ session .refusal) × (goingOf r ≡ keptAll (goingOf session) (now (chars .entry))) ⌝ }
 {
     let mut s = session;
@@ -151,7 +176,7 @@ pub fn begin(base: u32, memory: &[u8], marks: &mut [u8]) -> Session
         tally,
         header: [0u8; 252],
         held: 0,
-        line: [0u8; 515],
+        line: [0u8; 516],
     };
     if !window::is_allowed(base, memory, marks) {
         return halt(fresh, window::refuse(1, 0, 0), marks);

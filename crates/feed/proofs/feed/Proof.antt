@@ -9,6 +9,7 @@ use Rattle.window.specs.Windows.{windowOf}
 use Rattle.parts.specs.Parts.{row1Later, row20}
 use Rattle.parts.specs.Parts.Status.{halted}
 use Rattle.session.specs.Sessions.{goingOf}
+use Rattle.feed.proofs.TurnLaws.{all-free}
 use Rattle.feed.proofs.CallLaws.{shows, feed-refused, feed-barred, few-so-far, past, not-past, feed-past, feed-read, Reading, total-few, read-kept}
 use borrow.Author.Needs.{needs}
 use Rattle.feed.proofs.feed.Statement.{statement}
@@ -24,7 +25,7 @@ going-on c = c .before .before .before
 abbrev call : tie.After-is-barred → tie.Start
 call c = start (going-on c .before)
 
-line-long : (c : tie.Start) → length (c .args .session .line) ≡ 515
+line-long : (c : tie.Start) → length (c .args .session .line) ≡ 516
 line-long c = search needs
 
 -- row 1 applies, or not
@@ -94,7 +95,9 @@ returns-3 c =
     (at-halt .halt2 .ensures .0 ∙ ap halted (at-refuse .refuse2 .ensures)) refl (at-halt .halt2 .ensures .1)
 
 keep-requires : tie.Need-keep-requires
-keep-requires c κs = omega (arith, total-few (reading (c .before .before)))
+keep-requires c κs =
+    let k = c .before in
+    (omega (arith, total-few (reading (k .before))), all-free _ (sym (k .count-chars .ensures .0) ∙ c .if4 .taken))
 
 returns-4 : tie.Need-returns-4
 returns-4 c =

@@ -1,12 +1,10 @@
 -- `finish` meets its contract: row 1, the record that is not complete, and row 14.
 use mathlib.Core.Path.{_≡_, refl, sym, ap, _∙_}
 use Prim.Native.Nat.{ℕ}
-use native.Mathlib.Omega.{arith}
 use mathlib.Core.Bool.{true, false}
-use mathlib.Core.List.{List}
+use mathlib.Core.List.{List, [], _++_}
 use lib.Dec.{lit<}
 use lib.ListN.{length, take, replicate}
-use lib.Seq.{length-take-le}
 use borrow.Author.Tests.{not-true, not-false}
 use Rattle.window.specs.declared.Refusal.{Refusal}
 use Rattle.window.specs.Windows.{windowOf}
@@ -19,7 +17,7 @@ use Rattle.session.specs.Sessions.{goingOf}
 use Rattle.session.proofs.SessionLaws.{shows-going}
 use Rattle.feed.proofs.TurnLaws.{took-refused, took-next}
 use Rattle.feed.proofs.CallLaws.{shows}
-use Rattle.feed.proofs.EndLaws.{end-refused, end-barred, Closing, same-length, last-roomy, last-halts, last-reason, last-open, last-ended}
+use Rattle.feed.proofs.EndLaws.{end-refused, end-barred, Closing, same-length, few-now, last-halts, last-reason, last-open, last-ended}
 use borrow.Author.Needs.{needs}
 use Rattle.feed.proofs.finish.Statement.{statement}
 use Rattle.feed.proofs.finish.Tie as tie
@@ -34,7 +32,7 @@ going-on c = c .before .before .before
 abbrev call : tie.After-is-barred → tie.Start
 call c = start (going-on c .before)
 
-line-long : (c : tie.Start) → length (c .args .session .line) ≡ 515
+line-long : (c : tie.Start) → length (c .args .session .line) ≡ 516
 line-long c = search needs
 
 header-long : (c : tie.Start) → length (c .args .session .header) ≡ 252
@@ -47,15 +45,14 @@ barred c = sym (c .before .is-barred .ensures) ∙ c .if2 .taken
 allowed : (c : tie.Else2) → let a = call (c .before) .args in row1Later (windowOf (a .base) (a .memory .now) (a .marks .now)) (goingOf (a .session)) ≡ false
 allowed c = sym (c .before .is-barred .ensures) ∙ c .if2 .left
 
--- the record that is not complete, where its characters are counted
-abbrev own : tie.After-smaller → tie.Else2
-own c = c .before .before .before .before .before
+-- the record that is not complete, where it is to be closed
+abbrev own : tie.After-digit-table → tie.Else2
+own c = c .before
 
-abbrev closing : tie.After-smaller → Closing
+abbrev closing : tie.After-digit-table → Closing
 closing c =
     let e = own c in
-    let s = call (e .before) in
-    let a = s .args in
+    let a = call (e .before) .args in
     record {
       session = a .session;
       base = a .base;
@@ -63,20 +60,14 @@ closing c =
       marks = a .marks .now;
       goes = going-on (e .before) .if1 .left;
       allowed = allowed e;
-      n = c .smaller .result;
-      n-is = c .smaller .ensures;
-      long = line-long s;
     }
 
-held : (c : tie.After-smaller) → let s = call (own c .before) in length (take (c .smaller .result) (s .args .session .line)) ≡ c .smaller .result
-held c = length-take-le _ _ (omega (arith, c .smaller .ensures, line-long (call (own c .before))))
+-- where it was closed
+abbrev begun : tie.After-close-line → tie.After-digit-table
+begun c = c .before .before .before .before .before .before .before .before .before .before
 
--- where it was taken
-abbrev counted : tie.After-take-line → tie.After-smaller
-counted c = c .before .before .before .before .before .before
-
-abbrev taken : tie.After-slice-known5 → tie.After-take-line
-taken c = c .before .before .before .before .before
+abbrev taken : tie.After-slice-known5 → tie.After-close-line
+taken c = c .before .before .before .before .before .before
 
 returns : tie.Need-returns
 returns c = let a = start (c .before) .args in
@@ -94,34 +85,32 @@ returns-2 c =
     shows (end-barred (a .session) (a .base) (a .memory .now) (a .marks .now) (going-on (t .before) .if1 .left) (barred t)) (at-halt .halt .ensures .0 ∙ ap halted (at-refuse .refuse .ensures)) refl
     (at-halt .halt .ensures .1)
 
-array-share-prefix-line : tie.Need-array-share-prefix-line
-array-share-prefix-line c = let j = c .before in omega (arith, j .smaller .ensures, line-long (call (own j .before)))
+slice-aggregate-close-line : tie.Need-slice-aggregate-close-line
+slice-aggregate-close-line c = sym (line-long (call (own (c .before .before .before .before .before) .before)))
 
-slice-aggregate-take-line : tie.Need-slice-aggregate-take-line
-slice-aggregate-take-line c = sym (held (c .before .before))
+slice-aggregate-close-line-3 : tie.Need-slice-aggregate-close-line-3
+slice-aggregate-close-line-3 c = sym (header-long (call (own (c .before .before .before .before .before .before .before) .before)))
 
-slice-aggregate-take-line-2 : tie.Need-slice-aggregate-take-line-2
-slice-aggregate-take-line-2 c = sym (header-long (call (own (c .before .before .before) .before)))
-
-take-line-requires : tie.Need-take-line-requires
-take-line-requires c κs =
-    let j = c .before .before .before .before .before in
-    (j .before .before .before .before .digit-table .ensures, same-length (closing j), header-long (call (own j .before)), last-roomy (closing j))
+close-line-requires : tie.Need-close-line-requires
+close-line-requires c κs =
+    let j = c .before .before .before .before .before .before .before .before .before in
+    let s = call (own j .before) in
+    (j .digit-table .ensures, line-long s, same-length (closing j), header-long s, few-now (closing j), refl)
 
 halt-requires-2 : tie.Need-halt-requires-2
 halt-requires-2 c κs =
     let at-turn = c .before .before in
     let k = taken (at-turn .before .before) in
-    last-reason (closing (counted k)) _ (took-refused _ _ _ _ _ _ (k .take-line .ensures) _ (at-turn .turn .given .1) .0)
+    last-reason (closing (begun k)) _ (took-refused _ _ _ _ _ _ (k .close-line .ensures) _ (at-turn .turn .given .1) .0)
 
 returns-3 : tie.Need-returns-3
 returns-3 c =
     let at-halt = c .before .before in
     let at-turn = at-halt .before .before .before in
     let k = taken (at-turn .before .before) in
-    let y = took-refused _ _ _ _ _ _ (k .take-line .ensures) _ (at-turn .turn .given .1) in
-    shows (last-halts (closing (counted k)) _ (y .0)) (at-halt .halt2 .ensures .0) (y .1)
-    (at-halt .halt2 .ensures .1 ∙ ap (λ (n : ℕ). replicate n 0) (k .take-line .kept .1 .1 .1 .1 .1 .1 .1 .0))
+    let y = took-refused _ _ _ _ _ _ (k .close-line .ensures) _ (at-turn .turn .given .1) in
+    shows (last-halts (closing (begun k)) _ (y .0)) (at-halt .halt2 .ensures .0) (y .1)
+    (at-halt .halt2 .ensures .1 ∙ ap (λ (n : ℕ). replicate n 0) (k .close-line .kept .1 .1 .1 .1 .1 .1 .1 .1 .1 .0))
 
 -- the last record was taken: where, the records with it, and what it left in header, memory and marks
 abbrev last : tie.After-struct-known2 → tie.After-turn2
@@ -131,18 +120,18 @@ abbrev tally : tie.After-turn2 → Tally
 tally c = c .turn2 .given .0 .0
 
 abbrev header : tie.After-turn2 → List ℕ
-header c = taken (c .before .before) .take-line .last .1 .1 .1 .1 .1 .0
+header c = taken (c .before .before) .close-line .last .1 .1 .1 .1 .1 .1 .1 .0
 
 abbrev memory : tie.After-turn2 → List ℕ
-memory c = taken (c .before .before) .take-line .last .1 .1 .1 .1 .1 .1 .0
+memory c = taken (c .before .before) .close-line .last .1 .1 .1 .1 .1 .1 .1 .1 .0
 
 abbrev marks : tie.After-turn2 → List ℕ
-marks c = taken (c .before .before) .take-line .last .1 .1 .1 .1 .1 .1 .1 .0
+marks c = taken (c .before .before) .close-line .last .1 .1 .1 .1 .1 .1 .1 .1 .1 .0
 
-took : (c : tie.After-turn2) → let a = call (own (counted (taken (c .before .before))) .before) .args in
-    lineTurn (a .base) (a .session .place) (take (counted (taken (c .before .before)) .smaller .result) (a .session .line)) (a .memory .now) (a .marks .now)
+took : (c : tie.After-turn2) → let a = call (own (begun (taken (c .before .before))) .before) .args in
+    lineTurn (a .base) (a .session .place) (take 515 (goingOf (a .session) .held ++ [])) (a .memory .now) (a .marks .now)
     (knownOf (a .session .tally) (a .session .header)) ≡ next (knownOf (tally c) (header c)) (memory c) (marks c)
-took c = took-next _ _ _ _ _ _ (taken (c .before .before) .take-line .ensures) _ (c .turn2 .given .1)
+took c = took-next _ _ _ _ _ _ (taken (c .before .before) .close-line .ensures) _ (c .turn2 .given .1)
 
 halt-requires-3 : tie.Need-halt-requires-3
 halt-requires-3 c κs = rw (c .before .refuse2 .ensures) (lit< tt)
@@ -150,7 +139,7 @@ halt-requires-3 c κs = rw (c .before .refuse2 .ensures) (lit< tt)
 same-length-5 : tie.Need-same-length-5
 same-length-5 c =
     let at-turn = last (c .before .before .before .before .before .before .before) in
-    taken (at-turn .before .before) .take-line .kept .1 .1 .1 .1 .1 .1 .0
+    taken (at-turn .before .before) .close-line .kept .1 .1 .1 .1 .1 .1 .1 .1 .0
 
 returns-4 : tie.Need-returns-4
 returns-4 c =
@@ -159,7 +148,7 @@ returns-4 c =
     let t = at-refuse .before .before in
     let at-turn = last (t .before) in
     let k = taken (at-turn .before .before) in
-    shows (last-open (closing (counted k)) (tally at-turn) (header at-turn) (memory at-turn) (marks at-turn) (took at-turn)
+    shows (last-open (closing (begun k)) (tally at-turn) (header at-turn) (memory at-turn) (marks at-turn) (took at-turn)
     (not-true (tally at-turn .ended) (t .if3 .taken))) (at-halt .halt3 .ensures .0 ∙ ap halted (at-refuse .refuse2 .ensures)) refl
     (at-halt .halt3 .ensures .1)
 
@@ -169,8 +158,8 @@ returns-5 c =
     let at-turn = last (t .before) in
     let k = taken (at-turn .before .before) in
     let n = c .next-record in
-    let z = going-on (own (counted k) .before) .if1 .left in
-    shows (last-ended (closing (counted k)) (tally at-turn) (header at-turn) (memory at-turn) (marks at-turn) (took at-turn)
+    let z = going-on (own (begun k) .before) .if1 .left in
+    shows (last-ended (closing (begun k)) (tally at-turn) (header at-turn) (memory at-turn) (marks at-turn) (took at-turn)
     (not-false (tally at-turn .ended) (t .if3 .left)))
     (shows-going (n .result) (ap (λ (f : Refusal). f .reason) (n .ensures .0) ∙ z) ∙ ap going (n .ensures .1)) refl refl
 
@@ -186,11 +175,10 @@ finish-spec =
     (λ c. search needs)
     returns-2
     (λ c κs. search needs)
-    (λ c κs. search needs)
-    array-share-prefix-line
-    slice-aggregate-take-line
-    slice-aggregate-take-line-2
-    take-line-requires
+    slice-aggregate-close-line
+    (λ c. search needs)
+    slice-aggregate-close-line-3
+    close-line-requires
     (λ c. search needs)
     halt-requires-2
     (λ c. search needs)

@@ -1,10 +1,12 @@
 -- `settle` meets its contract: a refusal, or the characters behind the last line end are kept.
-use mathlib.Core.Path.{ap, _∙_}
+use mathlib.Core.Path.{_≡_, ap, _∙_}
 use Prim.Native.Nat.{ℕ, _-_, _≤_}
 use native.Mathlib.Omega.{arith}
 use lib.ListN.{length, take, drop}
-use Rattle.lists.proofs.PartLaws.{part-long}
+use Rattle.lists.proofs.PartLaws.{rest, part-long}
 use Rattle.window.specs.declared.Refusal.{Refusal}
+use Rattle.text.specs.Lines.{front}
+use Rattle.srec.specs.Lines.{isEnd}
 use Rattle.parts.specs.Parts.{Going}
 use Rattle.parts.specs.Stretches.{keptAll}
 use Rattle.feed.proofs.SettleLaws.{rest-reason, rest-inside, settled-refused, settled-from}
@@ -23,14 +25,18 @@ own c = call (c .before .before)
 abbrev from : tie.After-rest2 → ℕ
 from c = c .rest2 .given .0 .0
 
+known : (c : tie.After-rest2) → let part = own c .args .part .now in
+    (from c ≤ length part) × (front isEnd (drop (from c) part) ≡ drop (from c) part)
+known c = rest-inside (own c .args .part .now) (own c .args .rest) (from c) _ (c .rest2 .given .1) (own c .pre .2)
+
 inside : (c : tie.After-rest2) → from c ≤ length (own c .args .part .now)
-inside c = rest-inside _ (own c .args .rest) (from c) _ (c .rest2 .given .1) (own c .pre .2)
+inside c = known c .0
 
 halt-requires : tie.Need-halt-requires
 halt-requires c κs =
     let at-rest = c .before .before in
     let s = call (at-rest .before .before) in
-    rest-reason _ (s .args .rest) _ (at-rest .rest .given .1) (s .pre .2)
+    rest-reason (s .args .part .now) (s .args .rest) _ (at-rest .rest .given .1) (s .pre .2)
 
 returns : tie.Need-returns
 returns c =
@@ -56,13 +62,15 @@ part-keep-start c = inside (begun c)
 keep-requires : tie.Need-keep-requires
 keep-requires c κs =
     let j = begun (c .before) in
-    let l = own j .args .part .now in
-    omega (
-      arith,
-      inside j,
-      own j .pre .1,
-      part-long l (from j) (length l) (inside j) (omega arith),
-      ap (λ (g : Going). g .total) (c .before .next-record .ensures .1),
+    let l = own j .args .part .now in (
+      omega (
+        arith,
+        inside j,
+        own j .pre .1,
+        part-long l (from j) (length l) (inside j) (omega arith),
+        ap (λ (g : Going). g .total) (c .before .next-record .ensures .1),
+      ),
+      rw (rest (from j) l) (known j .1),
     )
 
 returns-2 : tie.Need-returns-2

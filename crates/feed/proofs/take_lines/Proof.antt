@@ -1,7 +1,7 @@
 -- `take_lines` meets its contract. The loop's invariant: what is left of the part comes to what all of it comes to.
 -- Each way out and the way round is one law of LoopLaws.
 use mathlib.Core.Path.{_≡_, refl, sym, ap, _∙_}
-use Prim.Native.Nat.{ℕ, _+_, _-_}
+use Prim.Native.Nat.{ℕ, _+_, _-_, _≤_}
 use native.Mathlib.Omega.{arith}
 use lib.ListN.{length, drop}
 use Rattle.lists.proofs.PartLaws.{rest, part-long}
@@ -13,7 +13,7 @@ use Rattle.parts.specs.Stretches.{fresh}
 use Rattle.intake.specs.Tallies.{knownOf}
 use Rattle.intake.specs.Takes.{beginOf}
 use Rattle.feed.proofs.TurnLaws.{took-refused, took-next, stopped-as}
-use Rattle.feed.proofs.LoopLaws.{IsNext, line-next, Taking, roomy, left-open, number-fits, line-halts, line-reason, line-goes}
+use Rattle.feed.proofs.LoopLaws.{IsNext, line-next, Taking, roomy, left-open, open-free, number-fits, line-halts, line-reason, line-goes}
 use borrow.Author.Needs.{needs}
 use Rattle.feed.proofs.take_lines.Statement.{statement}
 use Rattle.feed.proofs.take_lines.Tie as tie
@@ -79,6 +79,13 @@ begins c =
     let l = head (c .before .before .before .before) in
     ap (λ (k : ℕ). l .loop .at + k) (c .count-gaps .ensures .0 ∙ ap (leading isEnd) (rest (l .loop .at) (call l .args .part .now)))
 
+inside-at : (c : tie.After-count-gaps Inv-loop μ-loop) → let l = head (c .before .before .before .before) in
+    l .loop .at + c .count-gaps .result ≤ length (call l .args .part .now)
+inside-at c =
+    let l = head (c .before .before .before .before) in
+    let part = call l .args .part .now in
+    omega (arith, c .count-gaps .ensures .1, part-long part (l .loop .at) (length part) (l .loop .inv .0 .inside) (omega arith))
+
 sub-count-gaps : tie.Need-sub-count-gaps Inv-loop μ-loop
 sub-count-gaps c = head (c .before .before) .loop .inv .0 .inside
 
@@ -88,7 +95,7 @@ part-count-gaps-start c = head (c .before .before) .loop .inv .0 .inside
 add-from : tie.Need-add-from Inv-loop μ-loop
 add-from c =
     let l = head (c .before .before .before .before) in
-    record { fits = omega (arith, c .count-gaps .ensures .1, part-long (call l .args .part .now) (l .loop .at) (length (call l .args .part .now)) (l .loop .inv .0 .inside) (omega arith)) }
+    record { fits = omega (arith, inside-at c, l .loop .inv .0 .few .3, l .loop .inv .0 .inside) }
 
 same-length : tie.Need-same-length Inv-loop μ-loop
 same-length c = let i = head (c .before .before .before .before) .loop .inv in i .0 .header-long ∙ sym (i .1)
@@ -103,9 +110,10 @@ returns : tie.Need-returns Inv-loop μ-loop
 returns c =
     let at-told = c .before .before in
     let at-next = at-told .before .before in
+    let q = sym (at-told .enum-told .given .1) ∙ at-next .take-next .ensures in
     let l = head at-next in (
-      left-open (l .loop .inv .0) (sym (at-told .enum-told .given .1) ∙ at-next .take-next .ensures) _ (begins c),
-      omega (arith, c .count-gaps .ensures .1, part-long (call l .args .part .now) (l .loop .at) (length (call l .args .part .now)) (l .loop .inv .0 .inside) (omega arith)),
+      left-open (l .loop .inv .0) q _ (begins c),
+      (inside-at c, open-free (l .loop .inv .0) q _ (begins c)),
     )
 
 sub-take-step : tie.Need-sub-take-step Inv-loop μ-loop
@@ -129,7 +137,7 @@ take-step-requires c κs =
     let j = c .before .before .before .before in
     let l = own j in
     let i = l .loop .inv .0 in
-    ((call l .pre .0, i .memory-long ∙ sym (i .marks-long), i .header-long, omega (arith, number-fits i (next-at j))), next-at j .step-is)
+    ((call l .pre .0, i .memory-long ∙ sym (i .marks-long), i .header-long, number-fits i (next-at j)), next-at j .step-is)
 
 same-length-4 : tie.Need-same-length-4 Inv-loop μ-loop
 same-length-4 c =

@@ -1,11 +1,13 @@
 -- `is_possible` meets its contract: each test is the definition's.
 use mathlib.Core.Path.{_≡_}
-use Prim.Native.Nat.{_+_, _≤_}
+use Prim.Native.Nat.{ℕ, _+_, _≤_, min}
 use native.Mathlib.Omega.{arith}
-use lib.ListN.{length, take, length-take}
+use mathlib.Core.List.{List, map}
+use lib.ListN.{length, take, length-take, length-map}
 use borrow.Author.Tests.{le-leb, lt-leb}
 use Rattle.parts.specs.Parts.{possible}
 use Rattle.session.specs.declared.Session.{Session}
+use Rattle.session.specs.Sessions.{visible}
 use borrow.Author.Needs.{needs}
 use Rattle.session.proofs.is_possible.Statement.{statement}
 use Rattle.session.proofs.is_possible.Tie as tie
@@ -14,18 +16,21 @@ use Rattle.session.proofs.is_possible.Tie as tie
 abbrev session : tie.After-smaller → Session
 session c = c .before .before .before .args .session
 
-line-long : (c : tie.Start) → length (c .args .session .line) ≡ 515
+line-long : (c : tie.Start) → length (c .args .session .line) ≡ 516
 line-long c = search needs
 
 -- how many characters it holds
-held : (c : tie.After-smaller) → length (take (session c .held) (session c .line)) ≡ c .smaller .result
-held c = rw length-take (omega (arith, line-long (c .before .before .before), c .smaller .ensures))
+abbrev chars : Session → List ℕ
+chars s = map visible (take (min (s .held) 515) (s .line))
+
+held : (c : tie.After-smaller) → length (chars (session c)) ≡ c .smaller .result
+held c = rw (length-map, length-take) (omega (arith, line-long (c .before .before .before), c .smaller .ensures))
 
 -- the first two tests
 few : (c : tie.Else1) → session (c .before) .total ≤ 4294967295
 few c = c .if1 .left
 
-fits : (c : tie.Else3) → let s = session (c .before .before .before) in s .place + length (take (s .held) (s .line)) ≤ s .total
+fits : (c : tie.Else3) → let s = session (c .before .before .before) in s .place + length (chars s) ≤ s .total
 fits c = omega (arith, c .if3 .left, c .before .if2 .left, held (c .before .before .before))
 
 returns : tie.Need-returns
@@ -36,7 +41,7 @@ returns-2 : tie.Need-returns-2
 unfolding possible
 returns-2 c =
     let s = session (c .before .before) in
-    rw (le-leb _ _ (few (c .before)), lt-leb (s .place + length (take (s .held) (s .line))) (s .total) (omega (arith, c .if2 .taken)))
+    rw (le-leb _ _ (few (c .before)), lt-leb (s .place + length (chars s)) (s .total) (omega (arith, c .if2 .taken)))
 
 returns-3 : tie.Need-returns-3
 unfolding possible
@@ -44,7 +49,7 @@ returns-3 c =
     let s = session (c .before .before .before) in
     rw (
       le-leb _ _ (few (c .before .before)),
-      lt-leb (s .place + length (take (s .held) (s .line))) (s .total) (omega (arith, c .if3 .taken, c .before .if2 .left, held (c .before .before .before))),
+      lt-leb (s .place + length (chars s)) (s .total) (omega (arith, c .if3 .taken, c .before .if2 .left, held (c .before .before .before))),
     )
 
 returns-4 : tie.Need-returns-4

@@ -1,0 +1,53 @@
+-- `hide_ends` meets its contract. The loop's invariant: the first i characters are as they are shown.
+use mathlib.Core.Path.{_≡_, refl, ap, _∙_}
+use Prim.Native.Nat.{ℕ, _-_, _≤_, _<_}
+use native.Mathlib.Omega.{arith}
+use mathlib.Core.List.{List, _++_, map, append-nil}
+use lib.ListN.{length, getD, take, drop, set, length-set}
+use lib.Seq.{take-all, drop-length}
+use Rattle.session.specs.Sessions.{visible}
+use Rattle.session.proofs.VisibleLaws.{hide-next, hide-more}
+use borrow.Author.Needs.{needs}
+use Rattle.session.proofs.hide_ends.Statement.{statement}
+use Rattle.session.proofs.hide_ends.Tie as tie
+
+abbrev Inv-loop : tie.InvT-loop
+Inv-loop chars₀ i₀ chars i = (i ≤ length chars₀) × (length chars ≡ length chars₀) × (chars ≡ map visible (take i chars₀) ++ drop i chars₀)
+
+abbrev μ-loop : tie.MeasureT-loop
+μ-loop chars₀ i₀ chars i = length chars₀ - i
+
+loop-again : tie.Need-loop-again Inv-loop μ-loop
+loop-again c =
+    let k = c .before .before .before in
+    let l = k .loop in
+    let cs = k .before .before .args .chars .now in
+    let h : l .i < length cs = omega arith in
+    let next = c .seen .ensures ∙ ap visible (ap (λ (xs : List ℕ). getD xs (l .i) 0) (l .inv .2) ∙ hide-next cs (l .i) h) in (
+      omega arith,
+      simp length-set (l .inv .1),
+      (λ j. set (l .inv .2 j) (l .i) (next j)) ∙ hide-more cs (l .i) h,
+    )
+
+returns : tie.Need-returns Inv-loop μ-loop
+returns c =
+    let l = c .before .loop in
+    let cs = c .before .before .before .args .chars .now in
+    let e : l .i ≡ length cs = omega arith in
+    l .inv .2 ∙ rw (e, drop-length, append-nil) (ap (λ (xs : List ℕ). map visible xs) (take-all (length cs) cs (omega arith)))
+
+pub hide-ends-spec : {M : Type 1} → statement M
+hide-ends-spec =
+    tie.close
+    (tie.spec
+    Inv-loop
+    μ-loop
+    (λ c. (omega arith, refl, refl))
+    (λ c. search needs)
+    (λ c κs. search needs)
+    (λ c. search needs)
+    (λ c. search needs)
+    (λ c. search needs)
+    loop-again
+    (λ c. search needs)
+    returns)
