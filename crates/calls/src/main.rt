@@ -23,6 +23,7 @@ ghost use mathlib.Core.Path.{_≡_};
 ghost use Prim.Native.Nat.{_≤_, _<_};
 ghost use lib.ListN.{length};
 ghost use Rattle.hex.specs.Tables.{digitTable};
+ghost use Rattle.calls.specs.Rooms.{Room};
 
 // The cells and the marks that a case can lend.
 const ROOM: usize = 1024;
@@ -126,7 +127,7 @@ fn print_state(session: Session) {
 
 // The state, and all that is lent.
 fn print_bench(bench: Bench, memory: &[u8], marks: &[u8])
-    requires { ⌜ (length (now memory) ≡ 1024) × (length (now marks) ≡ 1024) ⌝ }
+    requires { ⌜ Room (now memory) (now marks) ⌝ }
 {
     let session = bench.session;
     let cells = marks::smaller(bench.cells, ROOM);
@@ -138,7 +139,7 @@ fn print_bench(bench: Bench, memory: &[u8], marks: &[u8])
 
 // Begins a load in the window that is lent.
 fn begin(bench: Bench, memory: &[u8], marks: &mut [u8]) -> Bench
-    requires { ⌜ (length (now memory) ≡ 1024) × (length (now marks) ≡ 1024) ⌝ }
+    requires { ⌜ Room (now memory) (now marks) ⌝ }
 {
     let cells = marks::smaller(bench.cells, ROOM);
     let lent = marks::smaller(bench.marks, ROOM);
@@ -150,7 +151,7 @@ fn begin(bench: Bench, memory: &[u8], marks: &mut [u8]) -> Bench
 
 // Feeds a part.
 fn feed_part(bench: Bench, part: &[u8], memory: &mut [u8], marks: &mut [u8]) -> Bench
-    requires { ⌜ (length (now memory) ≡ 1024) × (length (now marks) ≡ 1024) ⌝ }
+    requires { ⌜ Room (now memory) (now marks) ⌝ }
 {
     let session = bench.session;
     let cells = marks::smaller(bench.cells, ROOM);
@@ -169,7 +170,7 @@ fn feed_part(bench: Bench, part: &[u8], memory: &mut [u8], marks: &mut [u8]) -> 
 
 // Feeds so many of the characters that are left.
 fn feed_next(bench: Bench, n: usize, text: &[u8], memory: &mut [u8], marks: &mut [u8]) -> Bench
-    requires { ⌜ (length (now memory) ≡ 1024) × (length (now marks) ≡ 1024) ⌝ }
+    requires { ⌜ Room (now memory) (now marks) ⌝ }
 {
     let at = marks::smaller(bench.at, text.len());
     let to = at + marks::smaller(n, text.len() - at);
@@ -180,7 +181,7 @@ fn feed_next(bench: Bench, n: usize, text: &[u8], memory: &mut [u8], marks: &mut
 
 // Feeds all characters that are left in parts of so many. Parts of none would never end.
 fn feed_rest(bench: Bench, size: usize, text: &[u8], memory: &mut [u8], marks: &mut [u8]) -> Bench
-    requires { ⌜ (length (now memory) ≡ 1024) × (length (now marks) ≡ 1024) ⌝ }
+    requires { ⌜ Room (now memory) (now marks) ⌝ }
 {
     if size == 0 {
         return bench;
@@ -198,7 +199,7 @@ fn feed_rest(bench: Bench, size: usize, text: &[u8], memory: &mut [u8], marks: &
 
 // Ends a load and prints what it gives.
 fn end(bench: Bench, memory: &mut [u8], marks: &mut [u8]) -> Bench
-    requires { ⌜ (length (now memory) ≡ 1024) × (length (now marks) ≡ 1024) ⌝ }
+    requires { ⌜ Room (now memory) (now marks) ⌝ }
 {
     let session = bench.session;
     let cells = marks::smaller(bench.cells, ROOM);
@@ -287,7 +288,7 @@ fn call(
     memory: &mut [u8],
     marks: &mut [u8],
 ) -> Bench
-    requires { ⌜ (length (now memory) ≡ 1024) × (length (now marks) ≡ 1024) ⌝ }
+    requires { ⌜ Room (now memory) (now marks) ⌝ }
 {
     match letter {
         b'b' => return begin(bench, memory, marks),
@@ -308,7 +309,7 @@ fn call(
 
 // Runs one word: a letter, and up to two numbers with a colon between them.
 fn run_word(bench: Bench, word: &[u8], text: &[u8], memory: &mut [u8], marks: &mut [u8]) -> Bench
-    requires { ⌜ (length (now memory) ≡ 1024) × (length (now marks) ≡ 1024) ⌝ }
+    requires { ⌜ Room (now memory) (now marks) ⌝ }
 {
     if word.len() == 0 {
         return bench;
@@ -323,7 +324,7 @@ fn run_word(bench: Bench, word: &[u8], text: &[u8], memory: &mut [u8], marks: &m
 
 // Runs the words of a case.
 fn run_words(bench: Bench, words: &[u8], text: &[u8], memory: &mut [u8], marks: &mut [u8])
-    requires { ⌜ (length (now memory) ≡ 1024) × (length (now marks) ≡ 1024) ⌝ }
+    requires { ⌜ Room (now memory) (now marks) ⌝ }
 {
     let mut b = bench;
     let mut at: usize = 0;
@@ -338,7 +339,7 @@ fn run_words(bench: Bench, words: &[u8], text: &[u8], memory: &mut [u8], marks: 
 
 // Begins a load in buffers that were used before, and runs the words.
 fn run_lent(base: u32, cells: usize, words: &[u8], text: &[u8], memory: &mut [u8], marks: &mut [u8])
-    requires { ⌜ (cells ≤ 1024) × (length (now memory) ≡ 1024) × (length (now marks) ≡ 1024) ⌝ }
+    requires { ⌜ (cells ≤ 1024) × Room (now memory) (now marks) ⌝ }
 {
     fill_cells(memory);
     fill_marks(marks);

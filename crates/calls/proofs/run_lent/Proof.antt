@@ -13,7 +13,7 @@ slice-aggregate-begin-2 : tie.Need-slice-aggregate-begin-2
 slice-aggregate-begin-2 c = sym (length-take-le _ _ (search needs))
 
 run-words-requires : tie.Need-run-words-requires
-run-words-requires c κs = let p = c .before .before .before .before .before .before .before .before .before .before .before .before .before .before .before .before .before .before .before .pre in (omega (arith, p .1), omega (arith, p .2))
+run-words-requires c κs = let p = c .before .before .before .before .before .before .before .before .before .before .before .before .before .before .before .before .before .before .before .pre in (omega (arith, p .1), omega (arith, p .1))
 
 pub run-lent-spec : {M : Type 1} → statement M
 run-lent-spec =
