@@ -101,7 +101,7 @@ uint32_t srec_load_tape(uint32_t edition, const uint8_t *text, size_t text_len, 
 size_t srec_write_tape(uint32_t edition, uint32_t base, const uint8_t *memory, size_t memory_len, const uint8_t *marks,
                        size_t marks_len, uint8_t *out, size_t out_len);
 
-/* The words for a row, or for 0; NULL for a number that is no row. No function here gives rows 18 and 19. */
+/* The words for a row, or for 0; NULL for a number that is no row. No function here gives rows 18, 19 and 20. */
 static inline const char *srec_reason(unsigned number)
 {
     static const char *const words[] = {
@@ -125,6 +125,7 @@ static inline const char *srec_reason(unsigned number)
         "the output is too short for the text or tape",
         "the image has no entry",
         "a tape holds neither a header nor an entry",
+        "a part would bring the text past 4,294,967,295 characters",
     };
     return number < sizeof words / sizeof words[0] ? words[number] : NULL;
 }

@@ -35,7 +35,7 @@ pub struct Ended {
     pub session: Session,
 }
 
-// Takes the lines of a part from a place on whose ends stand in it, each where it stands.
+// Takes, from a place on, each line whose end stands in the part, where it stands.
 fn take_lines(
     table: &[u32; 256],
     part: &[u8],
@@ -159,7 +159,7 @@ fn take_part(
     let total = session.total;
     let tally = session.tally;
     let mut header = session.header;
-    // nothing is held
+    // nothing is held: row 1 has seen that place and held characters are within the total
     if session.place == total {
         let rest = take_lines(
             &table,

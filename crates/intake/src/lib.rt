@@ -49,7 +49,8 @@ pub fn going_on(state: State, head: usize) -> Tally
     }
 }
 
-// Keeps the data of an S0 as the header, of which `head` bytes are kept so far, and answers how many are kept now.
+// Keeps the data of an S0 as the header, of which `head` bytes are kept so far, and answers how many are kept now. Another record
+// leaves the header as it is.
 fn keep_header(table: &[u32; 256], chars: &[u8], head: usize, header: &mut [u8]) -> usize
     requires { ⌜ (now table ≡ digitTable) × (length (now header) ≡ 252) × IsGood (read (now chars)) ⌝ }
     ensures { λ r. ⌜ take r (now (header .exit)) ≡ headerIn (carried (read (now (chars .entry)))) (take head (now (header .entry))) ⌝ }
@@ -63,7 +64,7 @@ fn keep_header(table: &[u32; 256], chars: &[u8], head: usize, header: &mut [u8])
     count
 }
 
-// One record at a place, rows 2 to 13, by its step: it is claimed and stored, or refused.
+// One record at a place, rows 2 to 13, by its step: its data is claimed and stored, its header or entry is kept, or it is refused.
 pub fn take_step(
     table: &[u32; 256],
     step: Step,
@@ -128,8 +129,8 @@ fn search_next(table: &[u32; 256], state: State, part: &[u8], at: usize, total: 
 }
 
 // The next line of a part whose end stands in it, from a place on, and what it does behind the records before it; `total` characters
-// arrived before the part. Its count says where it may end, and one walk over its digits whether it is good; this way may only say
-// yes, and for all else the end is searched.
+// arrived before the part. Its count says where it may end, and one walk over its digits whether it is good. That way answers only
+// for a good record with a line end behind it; for all else the end is searched.
 pub fn take_next(table: &[u32; 256], state: State, part: &[u8], at: usize, total: usize) -> Taken
     requires { ⌜ (now table ≡ digitTable) × (at ≤ length (now part)) × Roomy total state (length (now part)) ⌝ }
     ensures { λ r. ⌜ r ≡ nextIn total state (now (part .entry)) at ⌝ }

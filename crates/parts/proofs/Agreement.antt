@@ -32,7 +32,7 @@ use Rattle.parts.specs.Agreement.Cut.{at-record, at-end, at-begin}
 use Rattle.parts.specs.Agreement.{feeds, joined, Ending, seen, inParts, storedBefore, memoryKept, laid, Keeps, Agrees, However-cut, Short-agrees, Parts-at-once, AsLent, Given-out, Given-out-goes-on, Refusals-stay}
 use Rattle.parts.proofs.SoundLaws.{Sound, SoundIn, SoundAt, fed-sound, end-sound, sound-possible, sound-allowed, allowed-sound, roomy, feed-is-fed, fed-append}
 use Rattle.parts.proofs.PartWalkLaws.{finishedAt, ending, walk}
-use Rattle.parts.proofs.KeptLaws.{scan-kept}
+use Rattle.parts.proofs.KeptLaws.{Named, scan-kept}
 
 -- ---- the calls on sound stages
 
@@ -204,7 +204,8 @@ refused-kept W text f memory q m =
       rest = k .rest;
       all-lines = k .all-lines;
       cut = ⊎-elim
-          (λ (o : (f .ordinal ≡ suc (0 + length (k .before))) × (f .reason ≡ 14 → ⊥)). at-record (o .0 ∙ ap suc (zero-add (length (k .before)))) (o .1))
+          (λ (o : Named f (0 + length (k .before)) (k .rest)). at-record (o .line) (o .others) (o .rest-is)
+          (o .ordinal ∙ ap suc (zero-add (length (k .before)))) (o .not-14))
           (λ o. at-end (o .0) (o .1)) (k .cut);
       stored = (rw e at m) ∙ k .stored ∙ ap (λ (x : List ℕ). laid (W .base) x (dataRecords (srec .part) (k .before))) (overlaid-blank (W .memory));
     })

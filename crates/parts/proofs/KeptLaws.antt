@@ -74,23 +74,37 @@ step-row s cs = go (read cs) (read-row cs .got)
 
 -- ---- what is kept
 
+-- the refusal names the first of the lines that are left, behind n records
+pub record Named (f : Refusal) (n : ℕ) (rest : List Line) : Type 0 where
+  pub line : Line
+  pub others : List Line
+  pub rest-is : rest ≡ line ∷ others
+  pub ordinal : f .ordinal ≡ suc n
+  pub not-14 : f .reason ≡ 14 → ⊥
+
 module _ (base : ℕ) (m₀ : List ℕ) where
   -- n records came before these lines; memory is what they left
   pub record KeptFrom (f : Refusal) (n : ℕ) (memory : List ℕ) (ls : List Line) (memory′ : List ℕ) : Type 0 where
     pub before : List Line
     pub rest : List Line
     pub all-lines : ls ≡ before ++ rest
-    pub cut : ((f .ordinal ≡ suc (n + length before)) × (f .reason ≡ 14 → ⊥)) ⊎ ((f .reason ≡ 14) × (rest ≡ []))
+    pub cut : Named f (n + length before) rest ⊎ ((f .reason ≡ 14) × (rest ≡ []))
     pub stored : memory′ ≡ laid base memory (dataRecords (srec .part) before)
 
   -- the refusal names the first of the lines
-  first-refused : (f : Refusal) (n : ℕ) (memory : List ℕ) (ls : List Line) (reason place want : ℕ) → (reason ≡ 14 → ⊥)
+  first-refused : (f : Refusal) (n : ℕ) (memory : List ℕ) (l : Line) (ls : List Line) (reason place want : ℕ) → (reason ≡ 14 → ⊥)
       → refused (refusalWith reason (suc n) place want) ≡ refused f
-      → KeptFrom f n memory ls memory
-  first-refused f n memory ls reason place want z q =
+      → KeptFrom f n memory (l ∷ ls) memory
+  first-refused f n memory l ls reason place want z q =
       let e : f .ordinal ≡ suc n = cc in
       let r : reason ≡ f .reason = cc in
-      record { before = []; rest = ls; all-lines = refl; cut = inl (e ∙ ap suc (sym (add-zero n)), λ y. z (r ∙ y)); stored = refl }
+      record {
+        before = [];
+        rest = l ∷ ls;
+        all-lines = refl;
+        cut = inl (record { line = l; others = ls; rest-is = refl; ordinal = e ∙ ap suc (sym (add-zero n)); not-14 = λ y. z (r ∙ y) });
+        stored = refl;
+      }
 
   -- one line more before the refused one
   one-more : (f : Refusal) (n : ℕ) (memory memory₁ memory′ : List ℕ) (l : Line) (ls : List Line)
@@ -105,9 +119,10 @@ module _ (base : ℕ) (m₀ : List ℕ) where
         stored = k .stored ∙ sym (d (dataRecords (srec .part) (k .before)));
       }
     where
-      shifted : ((f .ordinal ≡ suc (suc n + length (k .before))) × (f .reason ≡ 14 → ⊥)) ⊎ ((f .reason ≡ 14) × (k .rest ≡ []))
-          → ((f .ordinal ≡ suc (n + suc (length (k .before)))) × (f .reason ≡ 14 → ⊥)) ⊎ ((f .reason ≡ 14) × (k .rest ≡ []))
-      shifted (inl o) = inl (o .0 ∙ omega arith, o .1)
+      shifted : Named f (suc n + length (k .before)) (k .rest) ⊎ ((f .reason ≡ 14) × (k .rest ≡ []))
+          → Named f (n + suc (length (k .before))) (k .rest) ⊎ ((f .reason ≡ 14) × (k .rest ≡ []))
+      shifted (inl o) =
+          inl (record { line = o .line; others = o .others; rest-is = o .rest-is; ordinal = o .ordinal ∙ omega arith; not-14 = o .not-14 })
       shifted (inr o) = inr o
 
   -- what is stored of a plan that is refused
@@ -117,7 +132,7 @@ module _ (base : ℕ) (m₀ : List ℕ) where
   -- behind a terminator
   ended-kept : (f : Refusal) (s : State) (e : Entry) (img : Image) (ls : List Line) → Told f (suc (s .number)) img ls (ended s e ls)
   ended-kept f s e img [] q = absurd (let z : _≡_ {A = ℕ} 0 1 = cc in omega arith)
-  ended-kept f s e img (l ∷ ls) q = first-refused f (suc (s .number)) (overlaid m₀ img) (l ∷ ls) 2 (l .place) 0 (λ z. omega arith) q
+  ended-kept f s e img (l ∷ ls) q = first-refused f (suc (s .number)) (overlaid m₀ img) l ls 2 (l .place) 0 (λ z. omega arith) q
 
   module _ (size : ℕ) (f : Refusal) (s : State) (l : Line) (ls : List Line)
       (more-kept : (u : State) (x : Image) → length x ≡ length m₀ → Told f (u .number) x ls (scan (srec .step) size u ls)) where
@@ -143,7 +158,7 @@ module _ (base : ℕ) (m₀ : List ℕ) where
     step-kept : (img : Image) → length img ≡ length m₀ → (x : Step) → srec .step s (l .chars) ≡ x → Told f (s .number) img (l ∷ ls) (from-step x)
     step-kept img long (refuse g) e q =
         let r : g .reason < 12 = subst StepRow e (step-row s (l .chars)) in
-        first-refused f (s .number) (overlaid m₀ img) (l ∷ ls) (g .reason) (l .place + g .offset) (g .want) (λ z. omega arith) q
+        first-refused f (s .number) (overlaid m₀ img) l ls (g .reason) (l .place + g .offset) (g .want) (λ z. omega arith) q
     step-kept img long skip e q =
         without img _ (λ rs. ap (λ (y : Step). dataOf y rs) (part-is s (l .chars) skip e (λ r. r))) (more-kept (more s (s .header)) img long q)
     step-kept img long (title h) e q =
@@ -152,9 +167,9 @@ module _ (base : ℕ) (m₀ : List ℕ) where
         without img _ (λ rs. ap (λ (y : Step). dataOf y rs) (part-is s (l .chars) (finish a) e (λ r. r))) (ended-kept f s a img ls q)
     step-kept img long (put a ds) e q =
         by-test (row12 base (length img) a (length ds))
-        (λ t. rw t (first-refused f (s .number) (overlaid m₀ img) (l ∷ ls) 12 (l .place) 0 (λ z. omega arith) (rw t at q)))
+        (λ t. rw t (first-refused f (s .number) (overlaid m₀ img) l ls 12 (l .place) 0 (λ z. omega arith) (rw t at q)))
         (λ t. by-test (row13 base img a (length ds))
-        (λ v. rw (t, v) (first-refused f (s .number) (overlaid m₀ img) (l ∷ ls) 13 (l .place) 0 (λ z. omega arith) (rw (t, v) at q)))
+        (λ v. rw (t, v) (first-refused f (s .number) (overlaid m₀ img) l ls 13 (l .place) 0 (λ z. omega arith) (rw (t, v) at q)))
         (λ v. rw (t, v) (with-data img long a ds _ (part-is s (l .chars) (put a ds) e (λ r. r)) t
         (more-kept (moreData s (length ds)) (filled base img a ds)
         (fill-length base img (record { addr = a; bytes = ds } ∷ []) (t, v, tt) ∙ long) (rw (t, v) at q)))))

@@ -70,7 +70,7 @@ laid base memory (r ∷ rs) = laid base (over memory (r .addr - base) (r .bytes)
 
 -- where a text was cut by its refusal: at the record it names; at the end, behind all records (row 14); before all of them (row 1)
 pub data Cut (f : Refusal) (before rest : List Line) : Type 0 where
-  at-record : f .ordinal ≡ suc (length before) → (f .reason ≡ 14 → ⊥) → Cut f before rest
+  at-record : (l : Line) (ls : List Line) → rest ≡ l ∷ ls → f .ordinal ≡ suc (length before) → (f .reason ≡ 14 → ⊥) → Cut f before rest
   at-end : f .reason ≡ 14 → rest ≡ [] → Cut f before rest
   at-begin : f .reason ≡ 1 → before ≡ [] → Cut f before rest
 

@@ -10,7 +10,7 @@ use Rattle.parts.specs.Parts.Status.{going, halted}
 use Rattle.intake.specs.Tallies.{knownOf}
 use Rattle.session.specs.declared.Session.{Session}
 
--- a held character; no call holds a line end, and where a state that no call gave out has one it counts as NUL
+-- a held character: no call adds a line end to them, and where one stands among them it counts as NUL
 abbrev pub visible : ℕ → ℕ
 visible c = cond (isEnd c) 0 c
 

@@ -21,7 +21,7 @@ ghost use Rattle.session.specs.Sessions.{visible, goingOf, statusOf};
 // The most characters that a load in parts takes.
 pub const MOST: usize = 4294967295;
 
-// So many characters of a record are held: row 3 refuses a longer one by them.
+// So many characters of a record are held, enough for row 3, which refuses a record of more than 514.
 pub const HELD: usize = 515;
 
 // The header has no more bytes.
@@ -30,7 +30,8 @@ const MOST_HEADER: usize = 252;
 // The state that a call gives out and the next one takes. Of a refused load, whose refusal has a reason other than 0, nothing but the
 // refusal counts. Otherwise `size` is the number of cells at begin, `total` that of the characters so far; `line` has the first
 // `held` characters of the record that is not complete, at most 515, which begins at `place`, and room for a line end; `header` has the
-// first `tally.head` bytes of the header. What stands behind those, and an entry before a terminator, may be anything.
+// first `tally.head` bytes of the header, at most 252. A line end among the held characters counts as NUL. What stands behind
+// those lengths, an entry before a terminator, and what the refusal has beside the reason 0 may be anything.
 pub struct Session {
     pub refusal: Refusal,
     pub size: usize,
@@ -64,7 +65,7 @@ pub fn hold(line: &mut [u8], held: usize, chars: &[u8]) -> usize
     from + count
 }
 
-// Puts NUL in place of each line end among held characters: only a state that no call gave out has one there.
+// Puts NUL in place of each line end among held characters. No call adds one to them, but a state may be handed in that has one.
 pub fn hide_ends(chars: &mut [u8])
     ensures { λ _. ⌜ now (chars .exit) ≡ map visible (now (chars .entry)) ⌝ }
 {
@@ -198,7 +199,8 @@ fn header_from(header: [u8; 252], len: usize) -> Header
     }
 }
 
-// What a load comes to that ends here: its refusal; row 14, where no terminator was read; or what its records said.
+// What a state behind its end answers: its refusal; row 14, where no terminator was read; or what its records said. Held characters
+// are not looked at, and row 1 is not tried.
 pub fn answer(session: Session) -> Loaded
     ensures { λ r. ⌜ r ≡ answered (statusOf session) ⌝ }
 {

@@ -1,4 +1,4 @@
-// The stream program: S-record text of any length on standard input, loaded part by part as it arrives, and its canonical text on
+// The stream program: S-record text of any length on standard input, loaded in parts of 65,536 characters, and its canonical text on
 // standard output, for a window of 65,536 cells from address 0.
 use libc::STDIN_FILENO;
 use libc::STDOUT_FILENO;
