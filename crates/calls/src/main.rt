@@ -15,32 +15,21 @@
 //
 // An end prints the answer as `vectors` does. Behind it, and for `p`, the state is printed, and all cells and marks that are lent. Of
 // a refused state only the refusal counts.
+mod bench;
+mod state;
+
+use bench::Bench;
+use bench::ROOM;
 use libc::STDIN_FILENO;
 use libc::STDOUT_FILENO;
-use session::Session;
-use window::Entry;
 ghost use mathlib.Core.Path.{_≡_};
 ghost use Prim.Native.Nat.{_≤_, _<_};
 ghost use lib.ListN.{length};
 ghost use Rattle.hex.specs.Tables.{digitTable};
 ghost use Rattle.calls.specs.Rooms.{Room};
 
-// The cells and the marks that a case can lend.
-const ROOM: usize = 1024;
-
 // A number that has one digit more still fits 64 bits.
 const LIMIT: usize = 1000000000000000000;
-
-// What a case goes on with from one word to the next: the state, the one that was kept, the window that is lent, and how much of the
-// text was fed.
-struct Bench {
-    session: Session,
-    kept: Session,
-    base: u32,
-    cells: usize,
-    marks: usize,
-    at: usize,
-}
 
 // The number that decimal digits stand for.
 fn number_in(chars: &[u8]) -> usize {
@@ -63,219 +52,10 @@ fn fill_cells(cells: &mut [u8]) {
     }
 }
 
-// Marks that were used before.
-fn fill_marks(marks: &mut [u8]) {
-    let mut i: usize = 0;
-    while i < marks.len() {
-        marks[i] = 7;
-        i += 1;
-    }
-}
-
-// A word, and a number behind it.
-fn print_number(word: &[u8], n: usize) {
-    io::write_all(STDOUT_FILENO, word);
-    io::print_decimal(STDOUT_FILENO, n as u64);
-}
-
-// A word, and bytes in capital digits behind it.
-fn print_bytes(word: &[u8], bytes: &[u8])
-    requires { ⌜ length (now bytes) ≤ 1024 ⌝ }
-{
-    let mut digits = io::large_buffer();
-    hex_write::put_pairs(&mut digits, 0, bytes);
-    let n = 2 * bytes.len();
-    io::write_all(STDOUT_FILENO, word);
-    io::write_all(STDOUT_FILENO, &digits[..n]);
-    io::write_all(STDOUT_FILENO, b"\n");
-}
-
-// The entry of a load whose terminator was read.
-fn print_end(ended: bool, entry: Entry) {
-    io::write_all(STDOUT_FILENO, b" entry ");
-    if ended {
-        printing::print_entry(entry);
-        return;
-    }
-    printing::print_entry(Entry::Absent);
-}
-
-// Every number of a state, or its refusal.
-fn print_state(session: Session) {
-    io::write_all(STDOUT_FILENO, b"state ");
-    let refusal = session.refusal;
-    if refusal.reason != 0 {
-        io::write_all(STDOUT_FILENO, b"refused ");
-        printing::print_refusal(refusal);
-        io::write_all(STDOUT_FILENO, b"\n");
-        return;
-    }
-    let tally = session.tally;
-    let state = tally.state;
-    let entry = tally.entry;
-    print_number(b"size ", session.size);
-    print_number(b" total ", session.total);
-    print_number(b" place ", session.place);
-    print_number(b" held ", session.held);
-    print_number(b" number ", state.number);
-    print_number(b" records ", state.records);
-    print_number(b" cells ", state.cells);
-    print_number(b" head ", tally.head);
-    print_end(tally.ended, entry);
-    io::write_all(STDOUT_FILENO, b"\n");
-}
-
-// The state, and all that is lent.
-fn print_bench(bench: Bench, memory: &[u8], marks: &[u8])
-    requires { ⌜ Room (now memory) (now marks) ⌝ }
-{
-    let session = bench.session;
-    let cells = marks::smaller(bench.cells, ROOM);
-    let lent = marks::smaller(bench.marks, ROOM);
-    print_state(session);
-    print_bytes(b"memory ", &memory[..cells]);
-    print_bytes(b"marks ", &marks[..lent]);
-}
-
-// Begins a load in the window that is lent.
-fn begin(bench: Bench, memory: &[u8], marks: &mut [u8]) -> Bench
-    requires { ⌜ Room (now memory) (now marks) ⌝ }
-{
-    let cells = marks::smaller(bench.cells, ROOM);
-    let lent = marks::smaller(bench.marks, ROOM);
-    let mut b = bench;
-    let session = session::begin(bench.base, &memory[..cells], &mut marks[..lent]);
-    b.session = session;
-    b
-}
-
-// Feeds a part.
-fn feed_part(bench: Bench, part: &[u8], memory: &mut [u8], marks: &mut [u8]) -> Bench
-    requires { ⌜ Room (now memory) (now marks) ⌝ }
-{
-    let session = bench.session;
-    let cells = marks::smaller(bench.cells, ROOM);
-    let lent = marks::smaller(bench.marks, ROOM);
-    let mut b = bench;
-    let next = feed::feed(
-        session,
-        part,
-        bench.base,
-        &mut memory[..cells],
-        &mut marks[..lent],
-    );
-    b.session = next;
-    b
-}
-
-// Feeds so many of the characters that are left.
-fn feed_next(bench: Bench, n: usize, text: &[u8], memory: &mut [u8], marks: &mut [u8]) -> Bench
-    requires { ⌜ Room (now memory) (now marks) ⌝ }
-{
-    let at = marks::smaller(bench.at, text.len());
-    let to = at + marks::smaller(n, text.len() - at);
-    let mut b = feed_part(bench, &text[at..to], memory, marks);
-    b.at = to;
-    b
-}
-
-// Feeds all characters that are left in parts of so many. Parts of none would never end.
-fn feed_rest(bench: Bench, size: usize, text: &[u8], memory: &mut [u8], marks: &mut [u8]) -> Bench
-    requires { ⌜ Room (now memory) (now marks) ⌝ }
-{
-    if size == 0 {
-        return bench;
-    }
-    let mut b = bench;
-    let mut at = marks::smaller(bench.at, text.len());
-    while at < text.len() {
-        let to = at + marks::smaller(size, text.len() - at);
-        b = feed_part(b, &text[at..to], memory, marks);
-        at = to;
-    }
-    b.at = at;
-    b
-}
-
-// Ends a load and prints what it gives.
-fn end(bench: Bench, memory: &mut [u8], marks: &mut [u8]) -> Bench
-    requires { ⌜ Room (now memory) (now marks) ⌝ }
-{
-    let session = bench.session;
-    let cells = marks::smaller(bench.cells, ROOM);
-    let lent = marks::smaller(bench.marks, ROOM);
-    let mut b = bench;
-    let ended = feed::end(
-        session,
-        bench.base,
-        &mut memory[..cells],
-        &mut marks[..lent],
-    );
-    let loaded = ended.loaded;
-    let next = ended.session;
-    printing::print_answer(loaded);
-    b.session = next;
-    print_bench(b, memory, marks);
-    b
-}
-
-// The state with one of the numbers that its records gave overwritten.
-fn overwrite_tally(session: Session, letter: u8, n: usize) -> Session {
-    let mut s = session;
-    let mut tally = s.tally;
-    let mut state = tally.state;
-    match letter {
-        b'N' => state.number = n,
-        b'R' => state.records = n,
-        b'C' => state.cells = n,
-        b'L' => tally.head = n,
-        _ => {}
-    }
-    tally.state = state;
-    s.tally = tally;
-    s
-}
-
-// The state with one of its own numbers overwritten.
-fn overwrite(session: Session, letter: u8, n: usize) -> Session {
-    let mut s = session;
-    let refusal = window::refuse((n % 4294967296) as u32, 0, 0);
-    match letter {
-        b'S' => s.size = n,
-        b'T' => s.total = n,
-        b'P' => s.place = n,
-        b'H' => s.held = n,
-        b'X' => s.refusal = refusal,
-        _ => return overwrite_tally(session, letter, n),
-    }
-    s
-}
-
 fn set_mark(marks: &mut [u8], i: usize, n: usize) {
     if i < marks.len() {
         marks[i] = (n % 256) as u8;
     }
-}
-
-// What a word that makes no call changes for those behind it.
-fn change(bench: Bench, letter: u8, first: usize, second: usize) -> Bench {
-    let mut b = bench;
-    let session = b.session;
-    let kept = b.kept;
-    match letter {
-        b'a' => b.base = (first % 4294967296) as u32,
-        b'l' => {
-            b.cells = first;
-            b.marks = second;
-        }
-        b'k' => b.kept = session,
-        b'u' => b.session = kept,
-        _ => {
-            let next = overwrite(session, letter, first);
-            b.session = next;
-        }
-    }
-    b
 }
 
 // Makes the call of a word.
@@ -291,19 +71,19 @@ fn call(
     requires { ⌜ Room (now memory) (now marks) ⌝ }
 {
     match letter {
-        b'b' => return begin(bench, memory, marks),
-        b'f' => return feed_next(bench, first, text, memory, marks),
-        b'r' => return feed_rest(bench, first, text, memory, marks),
-        b'e' => return end(bench, memory, marks),
+        b'b' => return bench::begin(bench, memory, marks),
+        b'f' => return bench::feed_next(bench, first, text, memory, marks),
+        b'r' => return bench::feed_rest(bench, first, text, memory, marks),
+        b'e' => return bench::end(bench, memory, marks),
         b'p' => {
-            print_bench(bench, memory, marks);
+            bench::print_bench(bench, memory, marks);
             return bench;
         }
         b'm' => {
             set_mark(marks, first, second);
             return bench;
         }
-        _ => return change(bench, letter, first, second),
+        _ => return bench::change(bench, letter, first, second),
     }
 }
 
@@ -342,7 +122,6 @@ fn run_lent(base: u32, cells: usize, words: &[u8], text: &[u8], memory: &mut [u8
     requires { ⌜ (cells ≤ 1024) × Room (now memory) (now marks) ⌝ }
 {
     fill_cells(memory);
-    fill_marks(marks);
     let session = session::begin(base, &memory[..cells], &mut marks[..cells]);
     let bench = Bench {
         session,
@@ -363,7 +142,8 @@ fn run_window(table: &[u32; 256], heading: &[u8], words: &[u8], text: &[u8])
     let size = hex::number_of(table, &heading[10..18]) as usize;
     let cells = marks::smaller(size, ROOM);
     let mut memory = [0u8; ROOM];
-    let mut marks = [0u8; ROOM];
+    // marks that were used before
+    let mut marks = [7u8; ROOM];
     run_lent(base, cells, words, text, &mut memory, &mut marks);
 }
 

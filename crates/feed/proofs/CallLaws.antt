@@ -5,7 +5,7 @@ use native.Mathlib.Nat.{add-zero}
 use native.Mathlib.Omega.{arith}
 use mathlib.Core.Bool.{true, false}
 use mathlib.Core.List.{List, [], _∷_, _++_}
-use lib.ListN.{length, take, drop, length-append, length-take, length-map}
+use lib.ListN.{length, take, drop, length-append, length-take}
 use borrow.Author.Tests.{eq-eqb, ne-eqb, lt-ltb, le-ltb}
 use Rattle.window.specs.declared.Refusal.{Refusal}
 use Rattle.window.specs.Windows.{windowOf}
@@ -17,16 +17,19 @@ use Rattle.parts.specs.Parts.{Going, Status, Stage, stage, stopped, Turn, lineT
 use Rattle.parts.specs.Parts.Status.{going}
 use Rattle.parts.specs.Parts.Turn.{halt, next}
 use Rattle.parts.specs.Stretches.{fresh, keptAll}
-use Rattle.parts.proofs.SoundLaws.{Sound, allowed-sound, roomy, TurnKeeps}
+use Rattle.parts.proofs.GrowthLaws.{TurnKeeps}
+use Rattle.parts.proofs.SoundLaws.{Sound, allowed-sound, roomy}
 use Rattle.parts.proofs.StretchLaws.{fed-stretch}
 use Rattle.intake.specs.declared.Tally.{Tally}
 use Rattle.intake.specs.Tallies.{knownOf}
 use Rattle.session.specs.declared.Session.{Session}
 use Rattle.session.specs.Sessions.{goingOf, statusOf}
 use Rattle.session.proofs.SessionLaws.{shows-going}
-use Rattle.feed.specs.declared.Rest.{Rest}
-use Rattle.feed.specs.Feeds.{Few, behind}
-use Rattle.feed.proofs.TurnLaws.{front-free, lineHeld, turnOf, turn-halts, turn-goes, turn-keeps}
+use Rattle.part_lines.specs.declared.Rest.{Rest}
+use Rattle.part_lines.specs.Rests.{Few, behind}
+use Rattle.part_lines.proofs.FreeLaws.{front-free}
+use Rattle.part_lines.proofs.TurnLaws.{lineHeld, turnOf, turn-halts, turn-goes, turn-keeps}
+use Rattle.feed.proofs.AllowedLaws.{held-short, Allowed, call-sound, same-length}
 use Rattle.feed.proofs.SettleLaws.{same-status, same-marks, own-memory}
 
 -- a stage that is known, part by part
@@ -76,27 +79,22 @@ module _ (s : Session) (base : ℕ) (memory marks part : List ℕ) where
 
 -- what is known of it
 pub record Reading : Type 0 where
-  pub session : Session
-  pub base : ℕ
-  pub memory : List ℕ
-  pub marks : List ℕ
+  pub call : Allowed
   pub part : List ℕ
-  pub long : length (session .line) ≡ 516
-  pub allowed : row1Later (windowOf base memory marks) (goingOf session) ≡ false
-  pub fits : row20 (goingOf session) part ≡ false
+  pub fits : row20 (goingOf (call .session)) part ≡ false
 
 module _ (p : Reading) where
   abbrev s : Session
-  s = p .session
+  s = p .call .session
 
   abbrev base : ℕ
-  base = p .base
+  base = p .call .base
 
   abbrev memory : List ℕ
-  memory = p .memory
+  memory = p .call .memory
 
   abbrev marks : List ℕ
-  marks = p .marks
+  marks = p .call .marks
 
   abbrev part : List ℕ
   part = p .part
@@ -108,13 +106,10 @@ module _ (p : Reading) where
   read = fed base (stage (going g) memory marks) part
 
   short : length (g .held) ≤ 515
-  short = rw (length-map, length-take) (omega arith)
+  short = held-short s
 
   sound : Sound base g memory marks (length part + 0)
-  sound = roomy base g memory marks part (allowed-sound base g memory marks (p .allowed)) (p .fits)
-
-  pub same-length : length memory ≡ length marks
-  same-length = sound .memory-long ∙ sym (sound .marks-long)
+  sound = roomy base g memory marks part (call-sound (p .call)) (p .fits)
 
   pub total-few : s .total + length part ≤ most
   total-few = omega (arith, sound .few)
@@ -124,12 +119,6 @@ module _ (p : Reading) where
       → read ≡ stage (statusOf r) memory marks
   read-kept e r z q =
       fed-stretch base memory marks part g short e ∙ ap (λ (x : Status). stage x memory marks) (sym (shows-going r z ∙ ap going q))
-
-  -- its numbers are small
-  pub few-now : Few (s .tally .state) (s .place) 516
-  few-now =
-      let o = sound in
-      (o .number, o .records, o .cells, omega (arith, o .begins, o .few))
 
   -- nothing is held: its lines begin with it
   module _ (none : s .place ≡ s .total) where
@@ -195,15 +184,15 @@ module _ (p : Reading) where
       first-halts = turn-halts base memory marks g short part ends-in f (turn-is ∙ h)
 
       pub first-reason : 0 < f .reason
-      first-reason = turn-keeps base memory marks g short part ends-in same-length (halt f) (turn-is ∙ h)
+      first-reason = turn-keeps base memory marks g short part ends-in (same-length (p .call)) (halt f) (turn-is ∙ h)
 
     -- it is taken
     module _ (y : Tally) (header′ memory′ marks′ : List ℕ) (h : turn ≡ next (knownOf y header′) memory′ marks′) where
       keeps : TurnKeeps (length (lineHeld base memory marks g short part ends-in)) (g .known) memory marks (next (knownOf y header′) memory′ marks′)
-      keeps = turn-keeps base memory marks g short part ends-in same-length (next (knownOf y header′) memory′ marks′) (turn-is ∙ h)
+      keeps = turn-keeps base memory marks g short part ends-in (same-length (p .call)) (next (knownOf y header′) memory′ marks′) (turn-is ∙ h)
 
       pub next-same : length memory′ ≡ length marks′
-      next-same = keeps .memory-long ∙ same-length ∙ sym (keeps .marks-long)
+      next-same = keeps .memory-long ∙ same-length (p .call) ∙ sym (keeps .marks-long)
 
       -- its numbers are small
       pub next-few : Few (y .state) (s .total + (first + 1)) (length part - (first + 1))

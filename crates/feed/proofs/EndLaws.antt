@@ -1,10 +1,9 @@
 -- The end of a load in parts: one law for each answer of `finish`.
 use mathlib.Core.Path.{_≡_, sym, ap, _∙_, subst}
 use Prim.Native.Nat.{ℕ, _<_}
-use native.Mathlib.Omega.{arith}
 use mathlib.Core.Bool.{true, false}
 use mathlib.Core.List.{List, [], _++_, append-nil}
-use lib.ListN.{length, take, length-take, length-map}
+use lib.ListN.{length, take}
 use lib.Seq.{take-all}
 use borrow.Author.Tests.{eq-eqb, ne-eqb}
 use Rattle.window.specs.declared.Refusal.{Refusal}
@@ -14,12 +13,12 @@ use Rattle.parts.specs.Parts.{Going, Stage, stage, stopped, Turn, lineTurn, aft
 use Rattle.parts.specs.Parts.Status.{going}
 use Rattle.parts.specs.Parts.Turn.{halt, next}
 use Rattle.parts.specs.Stretches.{fresh}
-use Rattle.parts.proofs.SoundLaws.{Sound, allowed-sound, TurnKeeps, line-keeps}
+use Rattle.parts.proofs.GrowthLaws.{TurnKeeps, line-keeps}
 use Rattle.intake.specs.declared.Tally.{Tally}
 use Rattle.intake.specs.Tallies.{knownOf}
 use Rattle.session.specs.declared.Session.{Session}
 use Rattle.session.specs.Sessions.{goingOf, statusOf}
-use Rattle.feed.specs.Feeds.{Few}
+use Rattle.feed.proofs.AllowedLaws.{held-short, Allowed, same-length}
 
 module _ (s : Session) (base : ℕ) (memory marks : List ℕ) where
   -- an earlier refusal stays
@@ -31,16 +30,8 @@ module _ (s : Session) (base : ℕ) (memory marks : List ℕ) where
       → endIn (statusOf s) (windowOf base memory marks) ≡ stopped (refusal 1 0 0) memory marks
   end-barred z q = rw (eq-eqb (s .refusal .reason) 0 z, q)
 
--- what is known where the record that is not complete is read
-pub record Closing : Type 0 where
-  pub session : Session
-  pub base : ℕ
-  pub memory : List ℕ
-  pub marks : List ℕ
-  pub goes : session .refusal .reason ≡ 0
-  pub allowed : row1Later (windowOf base memory marks) (goingOf session) ≡ false
-
-module _ (p : Closing) where
+-- the record that is not complete is read
+module _ (p : Allowed) (goes : p .session .refusal .reason ≡ 0) where
   abbrev s : Session
   s = p .session
 
@@ -68,19 +59,7 @@ module _ (p : Closing) where
   turn = lineTurn base (s .place) chars memory marks (knownOf (s .tally) (s .header))
 
   held-are : g .held ≡ chars
-  held-are = sym (ap (take 515) (append-nil (g .held)) ∙ take-all 515 (g .held) (rw (length-map, length-take) (omega arith)))
-
-  sound : Sound base g memory marks 0
-  sound = allowed-sound base g memory marks (p .allowed)
-
-  pub same-length : length memory ≡ length marks
-  same-length = sound .memory-long ∙ sym (sound .marks-long)
-
-  -- its numbers are small
-  pub few-now : Few (s .tally .state) (s .place) 516
-  few-now =
-      let o = sound in
-      (o .number, o .records, o .cells, omega (arith, o .begins, o .few))
+  held-are = sym (ap (take 515) (append-nil (g .held)) ∙ take-all 515 (g .held) (held-short s))
 
   turned : (t : Turn) → turn ≡ t → ended ≡ conclude (afterTurn g memory marks t)
   turned t h =
@@ -89,7 +68,7 @@ module _ (p : Closing) where
       ∙ ap (λ (x : Turn). conclude (afterTurn g memory marks x)) h
     where
       going-end : ended ≡ conclude (closed base g memory marks)
-      going-end = rw (eq-eqb (s .refusal .reason) 0 (p .goes), p .allowed)
+      going-end = rw (eq-eqb (s .refusal .reason) 0 goes, p .allowed)
 
   -- the last record is refused, for a reason
   module _ (f : Refusal) (h : turn ≡ halt f) where
@@ -97,7 +76,7 @@ module _ (p : Closing) where
     last-halts = turned (halt f) h
 
     pub last-reason : 0 < f .reason
-    last-reason = subst (TurnKeeps (length chars) (g .known) memory marks) h (line-keeps (g .known) memory marks same-length base (s .place) chars)
+    last-reason = subst (TurnKeeps (length chars) (g .known) memory marks) h (line-keeps (g .known) memory marks (same-length p) base (s .place) chars)
 
   -- it is taken
   module _ (y : Tally) (header memory′ marks′ : List ℕ) (h : turn ≡ next (knownOf y header) memory′ marks′) where

@@ -1,5 +1,4 @@
-pub mod TurnLaws
-pub mod LoopLaws
 pub mod SettleLaws
+pub mod AllowedLaws
 pub mod CallLaws
 pub mod EndLaws

@@ -15,9 +15,9 @@ use Rattle.intake.specs.Tallies.{knownOf}
 use Rattle.session.specs.declared.Session.{Session}
 use Rattle.session.specs.Sessions.{goingOf, statusOf}
 use Rattle.session.proofs.SessionLaws.{shows-going}
-use Rattle.feed.specs.declared.Rest.{Rest}
-use Rattle.feed.specs.declared.Rest.the-variants.{Refused, From}
-use Rattle.feed.specs.Feeds.{behind, RestIn}
+use Rattle.part_lines.specs.declared.Rest.{Rest}
+use Rattle.part_lines.specs.declared.Rest.the-variants.{Refused, From}
+use Rattle.part_lines.specs.Rests.{behind, RestIn}
 
 -- what is known of a refusal, and of a place
 pub rest-reason : (part : List ℕ) (r : Rest) (f : Refusal) → r ≡ Refused f → RestIn part r → 0 < f .reason

@@ -30,7 +30,7 @@ use Rattle.srec_step.proofs.JudgeLaws.{counting}
 use Rattle.storing.specs.Stores.{storedBy, Placeable}
 use Rattle.parts.specs.Parts.{Known, Turn, stored, stepTurn, recordTurn, lineTurn}
 use Rattle.parts.specs.Parts.Turn.{halt, next}
-use Rattle.parts.proofs.SoundLaws.{granted-inside}
+use Rattle.parts.proofs.GrowthLaws.{granted-inside}
 use Rattle.intake.specs.declared.Tally.{Tally}
 use Rattle.intake.specs.Tallies.{stateOf, entryOf, knownOf, IsGood}
 

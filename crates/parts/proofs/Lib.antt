@@ -1,3 +1,4 @@
+pub mod GrowthLaws
 pub mod SoundLaws
 pub mod PartWalkLaws
 pub mod StretchLaws

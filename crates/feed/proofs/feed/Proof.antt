@@ -3,13 +3,12 @@ use mathlib.Core.Path.{_≡_, refl, sym, ap, _∙_}
 use native.Mathlib.Omega.{arith}
 use mathlib.Core.Bool.{true, false}
 use lib.Dec.{lit<}
-use lib.ListN.{length}
 use Rattle.window.specs.declared.Refusal.{Refusal}
 use Rattle.window.specs.Windows.{windowOf}
-use Rattle.parts.specs.Parts.{row1Later, row20}
-use Rattle.parts.specs.Parts.Status.{halted}
-use Rattle.session.specs.Sessions.{goingOf}
-use Rattle.feed.proofs.TurnLaws.{all-free}
+use Rattle.parts.specs.Parts.{stage, fed, row1Later, row20, feedIn}
+use Rattle.parts.specs.Parts.Status.{going, halted}
+use Rattle.session.specs.Sessions.{goingOf, statusOf}
+use Rattle.part_lines.proofs.FreeLaws.{all-free}
 use Rattle.feed.proofs.CallLaws.{shows, feed-refused, feed-barred, few-so-far, past, not-past, feed-past, feed-read, Reading, total-few, read-kept}
 use borrow.Author.Needs.{needs}
 use Rattle.feed.proofs.feed.Statement.{statement}
@@ -24,9 +23,6 @@ going-on c = c .before .before .before
 
 abbrev call : tie.After-is-barred → tie.Start
 call c = start (going-on c .before)
-
-line-long : (c : tie.Start) → length (c .args .session .line) ≡ 516
-line-long c = search needs
 
 -- row 1 applies, or not
 barred : (c : tie.Then2) → let a = call (c .before) .args in row1Later (windowOf (a .base) (a .memory .now) (a .marks .now)) (goingOf (a .session)) ≡ true
@@ -45,16 +41,16 @@ short c =
 -- what the laws are told of a part that is read
 abbrev reading : tie.Else3 → Reading
 reading c =
-    let s = call (c .before .before) in
-    let a = s .args in
+    let a = call (c .before .before) .args in
     record {
-      session = a .session;
-      base = a .base;
-      memory = a .memory .now;
-      marks = a .marks .now;
+      call = record {
+        session = a .session;
+        base = a .base;
+        memory = a .memory .now;
+        marks = a .marks .now;
+        allowed = allowed (c .before);
+      };
       part = a .part .now;
-      long = line-long s;
-      allowed = allowed (c .before);
       fits = short c;
     }
 
@@ -99,35 +95,54 @@ keep-requires c κs =
     let k = c .before in
     (omega (arith, total-few (reading (k .before))), all-free _ (sym (k .count-chars .ensures .0) ∙ c .if4 .taken))
 
+-- neither row applies: the part is read
+read : (c : tie.After-count-chars) → let a = call (c .before .before .before) .args in
+    feedIn (statusOf (a .session)) (windowOf (a .base) (a .memory .now) (a .marks .now)) (a .part .now)
+    ≡ fed (a .base) (stage (going (goingOf (a .session))) (a .memory .now) (a .marks .now)) (a .part .now)
+read c =
+    let e = c .before .before in
+    let a = call (e .before) .args in
+    feed-read (a .session) (a .base) (a .memory .now) (a .marks .now) (a .part .now) (going-on (e .before) .if1 .left) (allowed e) (short (c .before))
+
 returns-4 : tie.Need-returns-4
 returns-4 c =
     let t = c .before in
     let k = t .before in
-    let e = k .before .before in
-    let z = going-on (e .before) .if1 .left in
-    let a = call (e .before) .args in
-    shows (feed-read (a .session) (a .base) (a .memory .now) (a .marks .now) (a .part .now) z (allowed e) (short (k .before))
+    let z = going-on (k .before .before .before) .if1 .left in
+    shows (read k
     ∙ read-kept (reading (k .before)) (sym (k .count-chars .ensures .0) ∙ t .if4 .taken) (c .keep .result)
     (ap (λ (f : Refusal). f .reason) (c .keep .ensures .0) ∙ z) (c .keep .ensures .1)) refl refl refl
 
-take-part-requires : tie.Need-take-part-requires
-take-part-requires c κs =
+-- a line ends in it: where that was seen
+abbrev cut : tie.After-struct-known2 → tie.After-count-chars
+cut c = c .before .before
+
+take-fresh-requires : tie.Need-take-fresh-requires
+take-fresh-requires c κs =
     let t = c .before .before in
-    let k = t .before in
-    let j = k .before in
-    let e = j .before in (
-      (going-on (e .before) .if1 .left, k .count-chars .ensures .0, omega (arith, k .count-chars .ensures .1, t .if4 .left)),
-      (allowed e, short j),
-    )
+    let j = cut (t .before) .before in
+    let e = j .before in
+    ((going-on (e .before) .if1 .left, t .if5 .taken), (allowed e, short j))
 
 returns-5 : tie.Need-returns-5
 returns-5 c =
-    let at-part = c .before .before .before .before in
-    let j = at-part .before .before .before .before .before in
-    let e = j .before in
-    let a = call (e .before) .args in
-    let q = feed-read (a .session) (a .base) (a .memory .now) (a .marks .now) (a .part .now) (going-on (e .before) .if1 .left) (allowed e) (short j) in
-    shows q (at-part .take-part .ensures .0) (at-part .take-part .ensures .1 .0) (at-part .take-part .ensures .1 .1)
+    let f = c .before .before .before .before in
+    shows (read (cut (f .before .before .before .before))) (f .take-fresh .ensures .0) (f .take-fresh .ensures .1 .0) (f .take-fresh .ensures .1 .1)
+
+take-cut-requires : tie.Need-take-cut-requires
+take-cut-requires c κs =
+    let t = c .before .before .before in
+    let k = cut t in
+    let j = k .before in
+    let e = j .before in (
+      (going-on (e .before) .if1 .left, k .count-chars .ensures .0, omega (arith, k .count-chars .ensures .1, t .before .if4 .left)),
+      (allowed e, short j),
+    )
+
+returns-6 : tie.Need-returns-6
+returns-6 c =
+    let f = c .before .before .before .before in
+    shows (read (cut (f .before .before .before .before))) (f .take-cut .ensures .0) (f .take-cut .ensures .1 .0) (f .take-cut .ensures .1 .1)
 
 pub feed-spec : {M : Type 1} → statement M
 feed-spec =
@@ -151,7 +166,11 @@ feed-spec =
     (λ c. search needs)
     (λ c. search needs)
     returns-4
-    take-part-requires
+    take-fresh-requires
     (λ c. search needs)
     (λ c. search needs)
-    returns-5)
+    returns-5
+    take-cut-requires
+    (λ c. search needs)
+    (λ c. search needs)
+    returns-6)

@@ -15,9 +15,10 @@ use Rattle.intake.specs.declared.Tally.{Tally}
 use Rattle.intake.specs.Tallies.{knownOf}
 use Rattle.session.specs.Sessions.{goingOf}
 use Rattle.session.proofs.SessionLaws.{shows-going}
-use Rattle.feed.proofs.TurnLaws.{took-refused, took-next}
+use Rattle.part_lines.proofs.TurnLaws.{took-refused, took-next}
 use Rattle.feed.proofs.CallLaws.{shows}
-use Rattle.feed.proofs.EndLaws.{end-refused, end-barred, Closing, same-length, few-now, last-halts, last-reason, last-open, last-ended}
+use Rattle.feed.proofs.AllowedLaws.{Allowed, same-length, few-now}
+use Rattle.feed.proofs.EndLaws.{end-refused, end-barred, last-halts, last-reason, last-open, last-ended}
 use borrow.Author.Needs.{needs}
 use Rattle.feed.proofs.finish.Statement.{statement}
 use Rattle.feed.proofs.finish.Tie as tie
@@ -49,7 +50,7 @@ allowed c = sym (c .before .is-barred .ensures) ∙ c .if2 .left
 abbrev own : tie.After-digit-table → tie.Else2
 own c = c .before
 
-abbrev closing : tie.After-digit-table → Closing
+abbrev closing : tie.After-digit-table → Allowed
 closing c =
     let e = own c in
     let a = call (e .before) .args in
@@ -58,9 +59,11 @@ closing c =
       base = a .base;
       memory = a .memory .now;
       marks = a .marks .now;
-      goes = going-on (e .before) .if1 .left;
       allowed = allowed e;
     }
+
+goes : (c : tie.After-digit-table) → call (own c .before) .args .session .refusal .reason ≡ 0
+goes c = going-on (own c .before) .if1 .left
 
 -- where it was closed
 abbrev begun : tie.After-close-line → tie.After-digit-table
@@ -101,7 +104,7 @@ halt-requires-2 : tie.Need-halt-requires-2
 halt-requires-2 c κs =
     let at-turn = c .before .before in
     let k = taken (at-turn .before .before) in
-    last-reason (closing (begun k)) _ (took-refused _ _ _ _ _ _ (k .close-line .ensures) _ (at-turn .turn .given .1) .0)
+    last-reason (closing (begun k)) (goes (begun k)) _ (took-refused _ _ _ _ _ _ (k .close-line .ensures) _ (at-turn .turn .given .1) .0)
 
 returns-3 : tie.Need-returns-3
 returns-3 c =
@@ -109,7 +112,7 @@ returns-3 c =
     let at-turn = at-halt .before .before .before in
     let k = taken (at-turn .before .before) in
     let y = took-refused _ _ _ _ _ _ (k .close-line .ensures) _ (at-turn .turn .given .1) in
-    shows (last-halts (closing (begun k)) _ (y .0)) (at-halt .halt2 .ensures .0) (y .1)
+    shows (last-halts (closing (begun k)) (goes (begun k)) _ (y .0)) (at-halt .halt2 .ensures .0) (y .1)
     (at-halt .halt2 .ensures .1 ∙ ap (λ (n : ℕ). replicate n 0) (k .close-line .kept .1 .1 .1 .1 .1 .1 .1 .1 .1 .0))
 
 -- the last record was taken: where, the records with it, and what it left in header, memory and marks
@@ -148,7 +151,7 @@ returns-4 c =
     let t = at-refuse .before .before in
     let at-turn = last (t .before) in
     let k = taken (at-turn .before .before) in
-    shows (last-open (closing (begun k)) (tally at-turn) (header at-turn) (memory at-turn) (marks at-turn) (took at-turn)
+    shows (last-open (closing (begun k)) (goes (begun k)) (tally at-turn) (header at-turn) (memory at-turn) (marks at-turn) (took at-turn)
     (not-true (tally at-turn .ended) (t .if3 .taken))) (at-halt .halt3 .ensures .0 ∙ ap halted (at-refuse .refuse2 .ensures)) refl
     (at-halt .halt3 .ensures .1)
 
@@ -158,10 +161,9 @@ returns-5 c =
     let at-turn = last (t .before) in
     let k = taken (at-turn .before .before) in
     let n = c .next-record in
-    let z = going-on (own (begun k) .before) .if1 .left in
-    shows (last-ended (closing (begun k)) (tally at-turn) (header at-turn) (memory at-turn) (marks at-turn) (took at-turn)
+    shows (last-ended (closing (begun k)) (goes (begun k)) (tally at-turn) (header at-turn) (memory at-turn) (marks at-turn) (took at-turn)
     (not-false (tally at-turn .ended) (t .if3 .left)))
-    (shows-going (n .result) (ap (λ (f : Refusal). f .reason) (n .ensures .0) ∙ z) ∙ ap going (n .ensures .1)) refl refl
+    (shows-going (n .result) (ap (λ (f : Refusal). f .reason) (n .ensures .0) ∙ goes (begun k)) ∙ ap going (n .ensures .1)) refl refl
 
 pub finish-spec : {M : Type 1} → statement M
 finish-spec =

@@ -5,7 +5,7 @@ use native.Mathlib.Omega.{arith}
 use lib.ListN.{length}
 use Rattle.lists.proofs.PartLaws.{rest}
 use Rattle.text.specs.Lines.{front}
-use Rattle.text.specs.Finds.{leading}
+use Rattle.text.proofs.FindLaws.{from-is}
 use Rattle.srec.specs.Lines.{isEnd}
 use Rattle.intake.specs.Takes.{beginOf, endOf}
 use Rattle.intake.proofs.TakeLaws.{room, next-none, next-line}
@@ -25,9 +25,7 @@ abbrev last : tie.After-count-chars → ℕ
 last c = first c + c .count-chars .result
 
 begins : (c : tie.After-count-chars) → first c ≡ beginOf (call c .args .part .now) (call c .args .at)
-begins c =
-    let a = call c .args in
-    ap (λ (k : ℕ). a .at + k) (c .before .before .count-gaps .ensures .0 ∙ ap (leading isEnd) (rest (a .at) (a .part .now)))
+begins c = let a = call c .args in from-is isEnd (a .part .now) (a .at) _ (c .before .before .count-gaps .ensures .0)
 
 ends : (c : tie.After-count-chars) → last c ≡ endOf (call c .args .part .now) (first c)
 ends c =

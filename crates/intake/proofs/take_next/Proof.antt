@@ -1,9 +1,8 @@
 -- `take_next` meets its contract: a good line that ends where its count says is the next one.
-use mathlib.Core.Path.{_≡_, ap, _∙_}
+use mathlib.Core.Path.{_≡_}
 use Prim.Native.Nat.{ℕ, _+_}
 use native.Mathlib.Omega.{arith}
-use Rattle.lists.proofs.PartLaws.{rest}
-use Rattle.text.specs.Finds.{leading}
+use Rattle.text.proofs.FindLaws.{from-is}
 use Rattle.srec.specs.Lines.{isEnd}
 use Rattle.intake.specs.Takes.{beginOf}
 use Rattle.intake.proofs.TakeLaws.{room, next-line, sure-end}
@@ -23,9 +22,7 @@ abbrev last : tie.After-counted-end → ℕ
 last c = c .counted-end .result
 
 begins : (c : tie.After-counted-end) → first c ≡ beginOf (call c .args .part .now) (call c .args .at)
-begins c =
-    let a = call c .args in
-    ap (λ (k : ℕ). a .at + k) (c .before .count-gaps .ensures .0 ∙ ap (leading isEnd) (rest (a .at) (a .part .now)))
+begins c = let a = call c .args in from-is isEnd (a .part .now) (a .at) _ (c .before .count-gaps .ensures .0)
 
 good-step-requires : tie.Need-good-step-requires
 good-step-requires c κs =

@@ -1,10 +1,8 @@
 -- `take_next` meets its contract: a good line that ends where its count says is the next one.
-use mathlib.Core.Path.{_≡_, ap, _∙_}
+use mathlib.Core.Path.{_≡_}
 use Prim.Native.Nat.{ℕ, _+_, _^_}
 use native.Mathlib.Omega.{arith}
-use Rattle.lists.proofs.PartLaws.{rest}
-use Rattle.text.specs.Finds.{leading}
-use Rattle.text.proofs.FindLaws.{from}
+use Rattle.text.proofs.FindLaws.{from, from-is}
 use Rattle.text.proofs.StepLaws.{taken-line}
 use Rattle.formats.specs.Choices.{formatOf}
 use Rattle.steps.proofs.SureLaws.{room, sure-next}
@@ -25,9 +23,7 @@ last c = c .counted-end .result
 
 -- it begins where the next line does
 begins : (c : tie.After-counted-end) → let a = call c .args in first c ≡ from (formatOf (a .format) .gap) (a .text .now) (a .at)
-begins c =
-    let a = call c .args in
-    ap (λ (k : ℕ). a .at + k) (c .before .count-gaps .ensures .0 ∙ ap (leading (formatOf (a .format) .gap)) (rest (a .at) (a .text .now)))
+begins c = let a = call c .args in from-is (formatOf (a .format) .gap) (a .text .now) (a .at) _ (c .before .count-gaps .ensures .0)
 
 good-step-requires : tie.Need-good-step-requires
 good-step-requires c κs =
