@@ -293,7 +293,7 @@ int main(int argc, char **argv)
         print_lines(quick, rounds);
         return 0;
     }
-    printf("Minimum of %ld rounds, of %ld below %d MiB and for refusals, small loads, tapes and parts.\n\n", rounds,
+    printf("Minimum of %ld rounds, of %ld below %d MiB and for refusals, small loads, tapes, parts and overlays.\n\n", rounds,
            MORE * rounds, SMALL);
     compare(quick, rounds);
     grow(quick, rounds);
@@ -301,5 +301,6 @@ int main(int argc, char **argv)
     small_loads(rounds);
     tapes(rounds);
     parts(quick, rounds);
+    overlays(quick, rounds);
     return 0;
 }

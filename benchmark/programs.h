@@ -59,4 +59,7 @@ void tapes(long rounds);
 /* parts.c: the library's loads in parts beside its loads at once. */
 void parts(int quick, long rounds);
 
+/* overlays.c: the library's merges and looks beside hand-written C. */
+void overlays(int quick, long rounds);
+
 #endif

@@ -1,11 +1,11 @@
 #!/bin/sh
 # run.sh [--places] [--quick] [ROUNDS]: compiles the library's twins and compares them with it. See README.md here.
-# If there is no libcapi.a or libcuts.a, 'rt staticlib' makes it. SREC_LIB_DIR names another folder that has both.
+# If there is no libcapi.a, libcuts.a or liboverlay_c.a, 'rt staticlib' makes it. SREC_LIB_DIR names another folder that has all three.
 set -eu
 root=$(cd "$(dirname "$0")/.." && pwd)
 folder=${SREC_LIB_DIR:-$root/target/staticlib}
-library=$folder/libcapi.a cuts=$folder/libcuts.a
-for name in capi cuts; do
+library=$folder/libcapi.a others="$folder/libcuts.a $folder/liboverlay_c.a"
+for name in capi cuts overlay_c; do
     [ -f "$folder/lib$name.a" ] || [ -n "${SREC_LIB_DIR:-}" ] || (cd "$root" && rt staticlib "$name" >&2)
     [ -f "$folder/lib$name.a" ] || { echo "$folder/lib$name.a is missing" >&2; exit 2; }
 done
@@ -32,7 +32,7 @@ address() { # PLACE: where srec_load is
 # Links $bin/compareN with N bytes of padding before the library's code. The twins stand before it and do not move.
 link_place() { # N
     printf '.text\n.balign 16\n.org %s\n.section .note.GNU-stack,"",@progbits\n' "$1" >"$bin/padding.s"
-    gcc "$bin"/*.o "$bin/padding.s" "$library" "$cuts" -o "$bin/compare$1"
+    gcc "$bin"/*.o "$bin/padding.s" "$library" $others -o "$bin/compare$1"
     [ $(($(address "$1") - $(address 0))) -eq "$1" ] || { echo "srec_load did not move by $1 bytes" >&2; exit 2; }
 }
 
@@ -96,6 +96,7 @@ compile programs programs
 compile loads loads
 compile tapes tapes
 compile parts parts
+compile overlays overlays -O3
 compile compare compare
 
 gcc --version | head -n 1
@@ -103,6 +104,6 @@ if [ "${1:-}" = --places ]; then
     shift
     compare_places "$@"
 else
-    gcc "$bin"/*.o "$library" "$cuts" -o "$bin/compare"
+    gcc "$bin"/*.o "$library" $others -o "$bin/compare"
     "$bin/compare" "$@"
 fi

@@ -7,11 +7,17 @@ An edit of kind 'library' breaks a library: tests/second under the face of inclu
 archive and no prover is needed. tests/compare must notice, or tests/c where that does not. An edit of kind 'answers' breaks
 tests/second itself in what the C face does not show; tests/compare must notice that by way of the program vectors, which
 `rt check vectors` builds (and `rt staticlib capi` the archive that tests/compare links). An edit of kind 'parts' breaks it in
-loads in parts, and tests/compare must notice that by way of the program calls. An edit of kind 'calls' breaks the crates
-themselves; the program calls is compiled with it, without a proof, and the cases of crates/calls must notice. An edit names a
-file and replaces text that stands there exactly once, or several such texts in turn. With no edit nothing may be noticed. One
-line an edit; the last line is 'N passed, M failed'."""
+loads in parts, and tests/compare must notice that by way of the program calls. An edit of kind 'overlay' breaks it in patches
+over a base image; tests/compare must notice that by way of the program patches, and so must the oracle's own tests, and its
+test of the cases of crates/patches. An edit of kind 'calls' breaks the crates themselves; the program calls is compiled with
+it, without a proof, and the cases of crates/calls must notice. An edit of kind 'patches' does so with the program patches; the
+cases of crates/patches must notice, and so must the first cases that tests/compare draws, by the oracle's answers: `rt try`
+leaves no program that tests/compare itself could run. An edit names a file and replaces text that stands there exactly once, or
+several such texts in turn. With no edit nothing may be noticed. SREC_LIB_DIR, VECTORS, CALLS and PATCHES name another folder of
+the archive and other programs. One line an edit; the last line is 'N passed, M failed'."""
 
+import functools
+import json
 import os
 import re
 import shutil
@@ -24,10 +30,14 @@ TESTS = Path(__file__).resolve().parent
 BREAKS = TESTS / "breaks"
 TARGET = TESTS.parent / "target"
 READING = TESTS / "second" / "src"
+# what tests/compare takes if nothing else is named
+BUILT = {name: TARGET / "bin" / name.lower() for name in ("VECTORS", "CALLS", "PATCHES")} | {"SREC_LIB_DIR": TARGET / "staticlib"}
 SOURCES = [READING / "reading.rs", READING / "tape.rs", BREAKS / "library" / "face.rs", TESTS.parent / "include" / "srec.h"]
 # fewer than in the usual runs: what is wrong is noticed soon
 SEED, CASES = "1", "20000"
 STRESS = {"STRESS_CASES": "500"}
+# the program patches reads so many characters at most, so that its drawn cases are several inputs
+INPUT, FIRST = 65536, "2000"
 
 
 def read_edit(path):
@@ -61,13 +71,13 @@ def failures(command, places):
     return found
 
 
-def cargo(tests, test, *arguments):
-    package = str(tests / "compare" / "Cargo.toml")
-    return ["cargo", "test", "--release", "--offline", "--quiet", "--manifest-path", package, "--test", test, *arguments]
+def cargo(package, test, *arguments):
+    manifest = str(package / "Cargo.toml")
+    return ["cargo", "test", "--release", "--offline", "--quiet", "--manifest-path", manifest, "--test", test, *arguments]
 
 
-def drawn(tests, test):
-    return cargo(tests, test, "--", SEED, CASES)
+def drawn(package, test):
+    return cargo(package, test, "--", SEED, CASES)
 
 
 def library(edit, folder):
@@ -79,24 +89,31 @@ def library(edit, folder):
     command = "rustc --edition 2021 -O -A warnings --crate-name capi --crate-type staticlib face.rs -o libcapi.a"
     subprocess.run(command.split(), cwd=folder, check=True)
     places = {"SREC_LIB_DIR": str(folder), "SREC_INCLUDE_DIR": str(folder)}
-    for name, command in (("compare", drawn(TESTS, "compare")), ("c", ["sh", str(TESTS / "c" / "run.sh")])):
+    for name, command in (("compare", drawn(TESTS / "compare", "compare")), ("c", ["sh", str(TESTS / "c" / "run.sh")])):
         found = failures(command, places)
         if found:
             return f"{name}: " + "; ".join(found)
     return None
 
 
-def second(edit, folder, test):
-    """Edits a copy of tests/second and gives what a test of tests/compare says of it."""
+def second(edit, folder, test, *own):
+    """Edits a copy of tests/second and gives which tests notice: one of tests/compare, and all of these of its own."""
+    tests = folder / "tests"
     for name in ("second", "compare"):
-        shutil.copytree(TESTS / name, folder / name, ignore=shutil.ignore_patterns("target"))
+        shutil.copytree(TESTS / name, tests / name, ignore=shutil.ignore_patterns("target"))
     if edit:
-        apply(edit, folder / "second" / "src")
-    programs = {"VECTORS": str(TARGET / "bin" / "vectors"), "CALLS": str(TARGET / "bin" / "calls")}
-    places = {**programs, "SREC_LIB_DIR": str(TARGET / "staticlib"), "RUSTFLAGS": "-A warnings"}
-    # an edit that does not compile is not one that is noticed
-    subprocess.run(cargo(folder, test, "--no-run"), env={**os.environ, **places}, stderr=subprocess.DEVNULL, check=True)
-    return test if failures(drawn(folder, test), places) else None
+        apply(edit, tests / "second" / "src")
+    built = {name: os.environ.get(name, str(path)) for name, path in BUILT.items()}
+    places = {**built, "CARGO_TARGET_DIR": str(folder / "target"), "RUSTFLAGS": "-A warnings"}
+    found = []
+    for package, name in (("compare", test), *[("second", name) for name in own]):
+        # an edit that does not compile is not one that is noticed
+        compiled = cargo(tests / package, name, "--no-run")
+        subprocess.run(compiled, env={**os.environ, **places}, stderr=subprocess.DEVNULL, check=True)
+        run = drawn if package == "compare" else cargo
+        if failures(run(tests / package, name), places):
+            found.append(f"{package} {name}")
+    return "; ".join(found) if len(found) > len(own) or not edit else None
 
 
 def answers(edit, folder):
@@ -109,19 +126,68 @@ def parts(edit, folder):
     return second(edit, folder, "parts")
 
 
-def calls(edit, folder):
-    """Edits a copy of the crates and gives which of the compiled programs write something else than crates/calls/stdout."""
+def overlay(edit, folder):
+    """Patches over a base image, by the program patches, by the oracle's tests and by the cases of crates/patches."""
+    cases = folder / "crates" / "patches"
+    cases.mkdir(parents=True)
+    for name in ("stdin", "stdout"):
+        shutil.copy(TESTS.parent / "crates" / "patches" / name, cases)
+    return second(edit, folder, "overlay", "overlay", "patches")
+
+
+def edited(edit, folder):
+    """Copies the crates, edited."""
     shutil.copy(TESTS.parent / "crates.txt", folder)
     shutil.copytree(TESTS.parent / "crates", folder / "crates")
     if edit:
         apply(edit, folder / "crates")
-    ran = subprocess.run(["rt", "try", "calls"], cwd=folder, stdout=subprocess.PIPE, stderr=subprocess.STDOUT)
+
+
+def broken(program, edit, folder):
+    """Which of the compiled programs write something else than the file 'stdout' of their crate, in one line."""
+    ran = subprocess.run(["rt", "try", program], cwd=folder, stdout=subprocess.PIPE, stderr=subprocess.STDOUT)
     printed = ran.stdout.decode("utf-8", "replace")
     found = re.findall(r"^(ok|FAIL): the native program (.*? (?:ended|failed))", printed, re.MULTILINE)
     if not found:
         sys.exit(f"{edit}: no program was compiled: {printed.strip().splitlines()[-1:]}")
-    broken = [name for word, name in found if word == "FAIL"]
-    return "calls: " + "; ".join(broken) if broken else None
+    return "; ".join(name for word, name in found if word == "FAIL")
+
+
+def calls(edit, folder):
+    """Edits a copy of the crates and gives which of the compiled programs write something else than crates/calls/stdout."""
+    edited(edit, folder)
+    found = broken("calls", edit, folder)
+    return f"calls: {found}" if found else None
+
+
+@functools.cache
+def drawn_patches():
+    """Inputs of the first cases that tests/compare draws for the program patches, each with what the oracle answers."""
+    manifest = str(TESTS / "second" / "Cargo.toml")
+    command = ["cargo", "run", "--release", "--offline", "--quiet", "--manifest-path", manifest, "--bin", "cases", "--"]
+    places = {"CARGO_TARGET_DIR": str(TARGET / "second"), **os.environ}
+    ran = subprocess.run([*command, "patches", SEED, FIRST], env=places, stdout=subprocess.PIPE, check=True)
+    inputs, script, answer = [], b"", b""
+    for case in map(json.loads, ran.stdout.splitlines()):
+        if len(script) + len(case["script"]) > INPUT:
+            inputs.append((script, answer))
+            script, answer = b"", b""
+        script, answer = script + bytes(case["script"]), answer + bytes(case["answer"])
+    return [*inputs, (script, answer)]
+
+
+def patches(edit, folder):
+    """The same of crates/patches, and of drawn cases up to an input that notices; both must."""
+    edited(edit, folder)
+    found = {"patches": broken("patches", edit, folder)}
+    for script, answer in drawn_patches():
+        (folder / "crates" / "patches" / "stdin").write_bytes(script)
+        (folder / "crates" / "patches" / "stdout").write_bytes(answer)
+        found["drawn"] = broken("patches", edit, folder)
+        if found["drawn"]:
+            break
+    noticed = [f"{name}: {programs}" for name, programs in found.items() if programs]
+    return "; ".join(noticed) if len(noticed) == len(found) or not edit else None
 
 
 def try_edit(kind, edit):
@@ -136,7 +202,7 @@ def try_edit(kind, edit):
 def main():
     names = sys.argv[1:]
     results = []
-    for kind in (library, answers, parts, calls):
+    for kind in (library, answers, parts, overlay, calls, patches):
         edits = [None, *sorted((BREAKS / kind.__name__).glob("*.edit"))]
         whole = not names or kind.__name__ in names
         results += [try_edit(kind, edit) for edit in edits if whole or edit and edit.stem in names]

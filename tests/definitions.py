@@ -1,10 +1,11 @@
 #!/usr/bin/env python3
-"""Compares the definitions in crates/*/specs with the oracle in tests/second, on generated texts and windows.
+"""Compares the definitions in crates/*/specs with the oracle in tests/second, on generated texts, windows and images.
 
     python3 tests/definitions.py [SEED]
 
-A throw-away crate has a statement for each case: load or write, as defined, gives what the oracle says. Each is proved
-by computing alone, so the checker refuses exactly the statements of the cases where the two differ.
+A throw-away crate, begun in tests/definitions, has a statement for each case: a load, a write, or looks and a merge, as
+defined, give what the oracle says. Each is proved by computing alone, so the checker refuses exactly the statements of the
+cases where the two differ.
 """
 
 import json
@@ -18,8 +19,9 @@ from collections import Counter
 from pathlib import Path
 
 ROOT = Path(__file__).resolve().parent.parent
-CRATES = ("lists", "hex", "window", "text", "srec", "tape", "parts")
-# the sides that the oracle draws cases of, each with the format whose definitions it is held to
+BEGUN = ROOT / "tests" / "definitions"
+CRATES = ("lists", "hex", "window", "text", "srec", "tape", "parts", "overlay")
+# the sides that the oracle draws cases of, each with the format whose definitions it is held to; images have none
 SIDES = {
     "load": "srec",
     "load-parts": "srec",
@@ -28,96 +30,13 @@ SIDES = {
     "write-tape": "(tape Repeat)",
     "load-tape-sum": "(tape Sum)",
     "write-tape-sum": "(tape Sum)",
+    "overlay": None,
 }
 # of so many drawn cases of a side, so many of each refusal and of the accepted ones: some refusals are rarely drawn
 DRAWN, REFUSED, ACCEPTED = 3000, 30, 100
 # what an output holds before a write: no character of a text
 UNWRITTEN = 170
 SHOWN = 5
-
-COMPARISON = """\
-use Prim.Native.Nat.{ℕ}
-use mathlib.Core.Bool.{Bool, true, false, _&&_}
-use mathlib.Core.List.{List, [], _∷_}
-use lib.Dec.{eqb}
-use lib.ListN.{length}
-use Rattle.window.specs.declared.Refusal.{Refusal}
-use Rattle.window.specs.Windows.{Window}
-use Rattle.window.specs.Plans.{Outcome}
-use Rattle.window.specs.declared.Entry.{Entry}
-use Rattle.window.specs.declared.Entry.the-variants.{Absent, Present}
-use Rattle.window.specs.declared.Header.{Header}
-use Rattle.window.specs.declared.Loaded.{Loaded}
-use Rattle.window.specs.declared.Written.{Written}
-use Rattle.text.specs.Formats.{Format, plan}
-use Rattle.text.specs.Load.{load, loadAnswer, memoryAfter, marksAfter}
-use Rattle.text.specs.Write.{WriteOutcome, write, writeAnswer, outputAfter}
-use Rattle.parts.specs.Agreement.{Ending, inParts}
-
-pub data Case : Type 0 where
-  -- format, window and text; the answer, and memory and marks afterwards
-  loads : Format → Window → List ℕ → Loaded → List ℕ → List ℕ → Case
-  -- window and the parts of a text of S-records; the answer, and memory and marks afterwards
-  arrives : Window → List (List ℕ) → Loaded → List ℕ → List ℕ → Case
-  -- format, window, header, entry and output; the answer, and the output afterwards
-  writes : Format → Window → List ℕ → Entry → List ℕ → Written → List ℕ → Case
-
-abbrev pub sameList : List ℕ → List ℕ → Bool
-sameList [] [] = true
-sameList [] (y ∷ ys) = false
-sameList (x ∷ xs) [] = false
-sameList (x ∷ xs) (y ∷ ys) = let r = sameList xs ys in eqb x y && r
-
-abbrev pub sameRefusal : Refusal → Refusal → Bool
-sameRefusal f g =
-    eqb (f .reason) (g .reason) && eqb (f .ordinal) (g .ordinal) && eqb (f .place) (g .place) && eqb (f .want) (g .want)
-
-abbrev pub sameHeader : Header → Header → Bool
-sameHeader h k = eqb (h .len) (k .len) && sameList (h .bytes) (k .bytes)
-
-abbrev pub sameEntry : Entry → Entry → Bool
-sameEntry Absent Absent = true
-sameEntry Absent (Present b) = false
-sameEntry (Present a) Absent = false
-sameEntry (Present a) (Present b) = eqb a b
-
-abbrev pub sameLoaded : Loaded → Loaded → Bool
-sameLoaded l k =
-    sameRefusal (l .refusal) (k .refusal) && sameHeader (l .header) (k .header) && sameEntry (l .entry) (k .entry)
-    && eqb (l .records) (k .records) && eqb (l .cells) (k .cells)
-
-abbrev pub sameWritten : Written → Written → Bool
-sameWritten w v = sameRefusal (w .refusal) (v .refusal) && eqb (w .length) (v .length)
-
-abbrev pub loadGives : Window → Outcome → Loaded → List ℕ → List ℕ → Bool
-loadGives W o answer memory marks =
-    sameLoaded (loadAnswer o) answer && sameList (memoryAfter (W .memory) o) memory && sameList (marksAfter (W .marks) o) marks
-
-abbrev pub endGives : Ending → Loaded → List ℕ → List ℕ → Bool
-endGives x answer memory marks = sameLoaded (x .answer) answer && sameList (x .memory) memory && sameList (x .marks) marks
-
-abbrev pub writeGives : List ℕ → WriteOutcome → Written → List ℕ → Bool
-writeGives out o answer output = sameWritten (writeAnswer o) answer && sameList (outputAfter out o) output
-
--- to unfold it is to unfold all that its line names: every definition that is shut
-unfoldable pub agrees : Case → Bool
-unfolding {unfoldable}
-agrees (loads F W text answer memory marks) = loadGives W (load W (plan F text)) answer memory marks
-agrees (arrives W parts answer memory marks) = endGives (inParts W parts) answer memory marks
-agrees (writes F W header entry out answer output) = writeGives out (write F W header entry (length out)) answer output
-"""
-
-STATEMENTS = """\
-use mathlib.Core.List.{[], _∷_}
-use lib.Dec.{T}
-use lib.ListN.{replicate}
-use Rattle.window.specs.declared.Entry.the-variants.{Absent, Present}
-use Rattle.srec.specs.Formats.{srec}
-use Rattle.tape.specs.declared.Edition.the-variants.{Repeat, Sum}
-use Rattle.tape.specs.Formats.{tape}
-use Rattle.sense.specs.Comparison.{agrees}
-use Rattle.sense.specs.Comparison.Case.{loads, arrives, writes}
-"""
 
 STATEMENT = """
 pub {name} : T (agrees ({case}))
@@ -180,17 +99,15 @@ def refusal(case):
     return record(reason=case["number"], ordinal=case["record"], place=case["place"], want=case["want"])
 
 
-def loaded(case):
-    """The answer of a load, and memory and marks afterwards."""
-    header = case["header"]
-    answer = record(
-        refusal=refusal(case),
-        header=record(len=len(header), bytes=filled(header, 252, 0)),
-        entry=entry(case),
-        records=case["records"],
-        cells=case["cells"],
-    )
+def answered(case, **counts):
+    """The answer of a load or a merge, and memory and marks afterwards."""
+    header = record(len=len(case["header"]), bytes=filled(case["header"], 252, 0))
+    answer = record(refusal=refusal(case), header=header, entry=entry(case), **counts)
     return answer, numbers(case["memory_after"]), numbers(case["marks_after"])
+
+
+def loaded(case):
+    return answered(case, records=case["records"], cells=case["cells"])
 
 
 def load_case(format, case):
@@ -208,9 +125,26 @@ def write_case(format, case):
     return " ".join(["writes", format, window(case), numbers(case["header"]), entry(case), before, answer, after])
 
 
+def lent(image):
+    memory, marks, header = [numbers(image[name]) for name in ("memory", "marks", "header")]
+    return f"(lent {memory} {marks} {header} {entry(image)})"
+
+
+def look(seen):
+    """What an address shows."""
+    source = f"(Refused {refusal(seen)})" if seen["word"] == "Refused" else seen["word"]
+    return record(address=seen["address"], source=source, part=numbers(seen["part"]))
+
+
+def overlay_case(_, case):
+    images, looks = [lent(case["base"]), lent(case["patch"])], numbers(map(look, case["looks"]))
+    return " ".join(["overlays", str(case["start"]), *images, looks, *answered(case)])
+
+
 def statement(name, case):
     side = name.rpartition("-")[0]
-    made = parts_case if side == "load-parts" else load_case if side.startswith("load") else write_case
+    own = {"load-parts": parts_case, "overlay": overlay_case}
+    made = own.get(side, load_case if side.startswith("load") else write_case)
     return STATEMENT.format(name=name, case=made(SIDES[side], case))
 
 
@@ -223,11 +157,11 @@ def unfoldable():
 
 
 def below(crates, listed):
-    """These crates and all that they are listed to need."""
+    """These crates and all that they are listed to need; a library of the kit is not listed itself."""
     found, left = set(), list(crates)
     while left:
         crate = left.pop()
-        if crate not in found:
+        if crate in listed and crate not in found:
             found.add(crate)
             left += listed[crate].split()
     return found
@@ -247,11 +181,12 @@ def write_crates(folder, cases):
             shutil.copytree(ROOT / "target" / known, folder / "target" / known)
 
     statements = [statement(name, case) for name, case in cases.items()]
+    comparison, head = [(BEGUN / f"{name}.txt").read_text(encoding="utf-8") for name in ("Comparison", "Statements")]
     files = {
         "src/lib.rt": "// No function: the statements are in specs.\n",
         "specs/Lib.antt": "pub mod Comparison\npub mod Statements\n",
-        "specs/Comparison.antt": COMPARISON.replace("{unfoldable}", " ".join(unfoldable())),
-        "specs/Statements.antt": STATEMENTS + "".join(statements),
+        "specs/Comparison.antt": comparison.replace("{unfoldable}", " ".join(unfoldable())),
+        "specs/Statements.antt": head + "".join(statements),
     }
     for name, text in files.items():
         file = folder / "crates" / "sense" / name
@@ -269,7 +204,7 @@ def refused(cases):
         return []
     said = ran.stdout + ran.stderr
     errors = re.findall(r"error: (.*)", said)
-    names = [error.split("`")[1] for error in errors if re.match(r"`(load|write)(-tape|-parts)?(-sum)?-\d+`:", error)]
+    names = [error.split("`")[1] for error in errors if re.match(rf"`({'|'.join(SIDES)})-\d+`:", error)]
     # any other error can hide statements that were not computed
     if not names or len(names) != len(errors):
         raise Stopped(f"the checker did not come to compute the cases\n{said}")
@@ -277,10 +212,14 @@ def refused(cases):
 
 
 def shown(name, value):
+    if isinstance(value, dict):
+        return {field: shown(field, inner) for field, inner in value.items()}
     if not isinstance(value, list):
         return value
     if name == "parts":
         return [bytes(part) for part in value]
+    if name == "looks":
+        return [shown(name, look) for look in value]
     return bytes(value) if name.startswith("text") else bytes(value).hex(" ")
 
 

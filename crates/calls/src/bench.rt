@@ -1,8 +1,6 @@
 // A load as the words of a case go on with it, and the calls.
 use libc::STDOUT_FILENO;
 use session::Session;
-ghost use Prim.Native.Nat.{_≤_};
-ghost use lib.ListN.{length};
 ghost use Rattle.calls.specs.Rooms.{Room};
 
 // The cells and the marks that a case can lend.
@@ -20,14 +18,9 @@ pub struct Bench {
 }
 
 // A word, and bytes in capital digits behind it.
-fn print_bytes(word: &[u8], bytes: &[u8])
-    requires { ⌜ length (now bytes) ≤ 1024 ⌝ }
-{
-    let mut digits = io::large_buffer();
-    hex_write::put_pairs(&mut digits, 0, bytes);
-    let n = 2 * bytes.len();
+fn print_bytes(word: &[u8], bytes: &[u8]) {
     io::write_all(STDOUT_FILENO, word);
-    io::write_all(STDOUT_FILENO, &digits[..n]);
+    printing::print_pairs(bytes);
     io::write_all(STDOUT_FILENO, b"\n");
 }
 

@@ -21,7 +21,8 @@ use Rattle.text.specs.Write.{WriteOutcome, row17, textOf, write, writeAnswer, o
 use Rattle.text.specs.Write.WriteOutcome.{declined, wrote}
 use Rattle.text.specs.Terms.{loaded, Accepted, writtenAfter}
 use Rattle.text.proofs.LoadLaws.{accepted-is}
-use Rattle.srec.specs.Formats.{row15, row18, srec}
+use Rattle.srec.specs.Formats.{row18, srec}
+use Rattle.window.specs.Headers.{row15}
 use Rattle.tape.specs.Formats.{row19, row11Marks, tape}
 use Rattle.formats.specs.declared.Format.{Format as Choice}
 use Rattle.formats.specs.declared.Format.the-variants.{Records, Tape}

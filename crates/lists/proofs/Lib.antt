@@ -4,3 +4,4 @@ pub mod SearchLaws
 pub mod OverLaws
 pub mod PendingLaws
 pub mod ByteLaws
+pub mod RenewLaws

@@ -20,7 +20,8 @@ use Rattle.marks.specs.Forms.{marksLeft}
 use Rattle.text.specs.Lines.{lines}
 use Rattle.text.specs.Finds.{firstHeader}
 use Rattle.text.specs.Formats.{plan}
-use Rattle.text.specs.Load.{load, headerOf, loadAnswer, memoryAfter, marksAfter}
+use Rattle.text.specs.Load.{load, loadAnswer, memoryAfter, marksAfter}
+use Rattle.window.specs.Headers.{headerOf}
 use Rattle.text.proofs.FormatLaws.{content}
 use Rattle.formats.specs.declared.Format.{Format}
 use Rattle.formats.specs.Choices.{formatOf}

@@ -23,10 +23,7 @@ pub fn refused_answer(refusal: Refusal) -> Loaded
 {
     Loaded {
         refusal,
-        header: Header {
-            len: 0,
-            bytes: [0u8; 252],
-        },
+        header: window::no_header(),
         entry: Entry::Absent,
         records: 0,
         cells: 0,

@@ -3,13 +3,13 @@ use mathlib.Core.Path.{_≡_, refl, ap, _∙_}
 use Prim.Native.Nat.{ℕ, zero, suc, _+_, _-_, _≤_, _<_, min, compare·suc-suc}
 use native.Mathlib.Numerals.{add-one}
 use native.Mathlib.Omega.{arith}
-use mathlib.Core.Bool.{Bool, true, false, _||_, or-assoc, or-false}
+use mathlib.Core.Bool.{Bool, true, false, not, _||_, or-assoc, or-false}
 use mathlib.Core.List.{List, [], _∷_}
 use lib.Bits.{bitOr, or-lt, or-add-and, and-le-l, and-le-r}
-use lib.Dec.{ltb}
+use lib.Dec.{eqb, ltb}
 use lib.ListN.{length, getD, take, drop, length-drop, drop-of-length-le}
 use lib.Seq.{take-nil, drop-cons}
-use borrow.Author.Tests.{lt-ltb, le-ltb, ltb-true, ltb-false, le-leb, lt-leb}
+use borrow.Author.Tests.{ne-eqb, lt-ltb, le-ltb, ltb-true, ltb-false, le-leb, lt-leb}
 use Rattle.lists.proofs.PartLaws.{drop-take, take-least}
 use Rattle.lists.proofs.TestLaws.{by-test}
 use Rattle.window.specs.Windows.{firstBadMark, row16}
@@ -33,6 +33,14 @@ pub run-found : (form : Form) (n : ℕ) (ms : List ℕ) (at most k r : ℕ) → 
 run-found Bytes n ms at most k r h e few q =
     let l : length (drop at ms) ≡ n - at = length-drop at ms ∙ ap (λ (x : ℕ). x - at) e in
     q ∙ rw (drop-take at k ms, few, ← l, take-least most (drop at ms), run-take most (drop at ms))
+
+-- a marked cell is a run of at least one cell, and no other is
+pub marked-at : (fs : List ℕ) (at end : ℕ) → at < length fs → end ≡ at + runOn 1 (drop at fs) → ltb at end ≡ not (eqb (getD fs at 0) 0)
+marked-at fs at end h e = go (getD fs at 0) (e ∙ ap (λ (x : List ℕ). at + runOn 1 x) (drop-cons fs at 0 h))
+  where
+    go : (m : ℕ) → end ≡ at + runOn 1 (m ∷ drop (suc at) fs) → ltb at end ≡ not (eqb m 0)
+    go zero q = le-ltb at end (omega arith)
+    go (suc m) q = lt-ltb at end (omega arith) ∙ rw (ne-eqb (suc m) 0 (λ z. omega arith))
 
 -- the or of two numbers is above 1 where one of them is
 or-above : (a b : ℕ) → ltb 1 (bitOr a b) ≡ ltb 1 a || ltb 1 b

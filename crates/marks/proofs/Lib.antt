@@ -2,3 +2,4 @@ pub mod FormLaws
 pub mod MarkSearchLaws
 pub mod GrantLaws
 pub mod FlagLaws
+pub mod LayerLaws

@@ -1,14 +1,16 @@
 // A window's marks: cleared, claimed, and walked over. A function that reads or claims them is told how many cells the window has and
 // in which form their marks are stored, and promises what it does by the flags that the marks show, one number a cell.
 ghost use mathlib.Core.Path.{_≡_};
-ghost use mathlib.Core.Bool.{true};
-ghost use Prim.Native.Nat.{_+_, _≤_, min};
+ghost use mathlib.Core.Bool.{true, not};
+ghost use Prim.Native.Nat.{_+_, _≤_, _<_, min};
 ghost use lib.Dec.{eqb, ltb};
-ghost use lib.ListN.{length, take, drop, replicate};
+ghost use lib.ListN.{length, getD, take, drop, replicate};
 ghost use Rattle.window.specs.Marks.{isFree, claimRow, claimed};
 ghost use Rattle.window.specs.Walks.{unmarked, run, runOn};
 ghost use Rattle.window.specs.Windows.{firstBadMark, row16};
+ghost use Rattle.window.specs.Images.{image, overlaid};
 ghost use Rattle.marks.specs.Forms.{flags, markBytes, stored, Tidy, badMark};
+ghost use Rattle.marks.specs.Layers.{shownOver, joined};
 
 // How the marks of a window are stored: a byte a cell.
 pub enum Form {
@@ -238,5 +240,54 @@ pub fn first_bad(form: Form, marks: &[u8], cells: usize) -> Bad
             let place = bad_byte(marks);
             return Bad::At(place);
         }
+    }
+}
+
+// Is the cell marked?
+pub fn is_marked(form: Form, marks: &[u8], cells: usize, at: usize) -> bool
+    requires { ⌜ (at < cells) × (length (now marks) ≡ markBytes form cells) ⌝ }
+    ensures { λ r. ⌜ r ≡ not (eqb (getD (flags form cells (now (marks .entry))) at 0) 0) ⌝ }
+{
+    run_end(form, marks, cells, at, 1) > at
+}
+
+// Of the bytes of a cell and of the one that lies over it, that which shows.
+fn upper(mark: u8, under: u8, over: u8) -> u8
+    ensures { λ r. ⌜ r ≡ shownOver mark under over ⌝ }
+{
+    if mark == 0 { under } else { over }
+}
+
+// Lays the bytes of marked cells over memory; all others stay. It stores each byte anew, with no branch: that is faster.
+fn lay_bytes(memory: &mut [u8], bytes: &[u8], marks: &[u8])
+    requires { ⌜ (length (now bytes) ≡ length (now memory)) × (length (now marks) ≡ length (now memory)) ⌝ }
+    ensures { λ _. ⌜ now (memory .exit) ≡ overlaid (now (memory .entry)) (image (now (bytes .entry)) (now (marks .entry))) ⌝ }
+{
+    let mut i: usize = 0;
+    while i < memory.len() {
+        memory[i] = upper(marks[i], memory[i], bytes[i]);
+        i += 1;
+    }
+}
+
+// Lays the marked cells of an image over a memory of as many cells; all other bytes stay.
+pub fn lay(memory: &mut [u8], bytes: &[u8], form: Form, marks: &[u8])
+    requires { ⌜ (length (now bytes) ≡ length (now memory)) × (length (now marks) ≡ markBytes form (length (now memory))) ⌝ }
+    ensures { λ _. ⌜ now (memory .exit) ≡ overlaid (now (memory .entry)) (image (now (bytes .entry)) (flags form (length (now (memory .entry))) (now (marks .entry)))) ⌝ }
+{
+    match form {
+        Form::Bytes => lay_bytes(memory, bytes, marks),
+    }
+}
+
+// Marks the cells that other marks of the same form and number mark, too.
+pub fn join(marks: &mut [u8], others: &[u8])
+    requires { ⌜ length (now others) ≡ length (now marks) ⌝ }
+    ensures { λ _. ⌜ now (marks .exit) ≡ joined (now (marks .entry)) (now (others .entry)) ⌝ }
+{
+    let mut i: usize = 0;
+    while i < marks.len() {
+        marks[i] = marks[i] | others[i];
+        i += 1;
     }
 }

@@ -8,6 +8,9 @@ ghost use Prim.Native.Nat.{_≤_};
 ghost use lib.ListN.{length};
 ghost use Rattle.printing.specs.Cases.{before};
 
+// A line has at most so many bytes.
+const LINE: usize = 1024;
+
 // How many characters stand before the first that equals `stop`, or before the end.
 pub fn count_before(stop: u8, chars: &[u8]) -> usize
     ensures { λ r. ⌜ (r ≡ before stop (now (chars .entry))) × (r ≤ length (now (chars .entry))) ⌝ }
@@ -36,12 +39,21 @@ fn significant(bytes: &[u8; 252]) -> usize
     n
 }
 
+// The first of some bytes, no more than a line can have, in capital digits.
+pub fn print_pairs(bytes: &[u8]) {
+    let n = marks::smaller(bytes.len(), LINE);
+    let mut digits = [0u8; 2048];
+    hex_write::put_pairs(&mut digits, 0, &bytes[..n]);
+    let end = 2 * n;
+    io::write_all(STDOUT_FILENO, &digits[..end]);
+}
+
 fn print_byte(byte: u8) {
     io::print_hex(STDOUT_FILENO, byte as u64, 2);
 }
 
 // A header's length, and its bytes without the zeros at their end.
-fn print_header(len: usize, bytes: &[u8; 252]) {
+pub fn print_header(len: usize, bytes: &[u8; 252]) {
     io::print_decimal(STDOUT_FILENO, len as u64);
     io::write_all(STDOUT_FILENO, b":");
     let n = significant(bytes);

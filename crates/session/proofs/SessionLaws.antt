@@ -1,25 +1,20 @@
 -- What a state shows: a refusal, a load that goes on, its header; and how a load begins.
-use mathlib.Core.Path.{_≡_, sym, ap, _∙_}
-use Prim.Native.Nat.{ℕ, _-_, _<_, min}
+use mathlib.Core.Path.{_≡_, sym, _∙_}
+use Prim.Native.Nat.{_-_, _<_}
 use native.Mathlib.Omega.{arith}
 use mathlib.Core.Bool.{Bool, true, false, not}
-use mathlib.Core.List.{List, _++_}
 use mathlib.Core.Option.{none}
-use lib.ListN.{length, take, drop, replicate}
-use lib.Seq.{length-take-le}
+use lib.ListN.{length, replicate}
 use borrow.Author.Tests.{eq-eqb, ne-eqb, not-false, not-true}
 use Rattle.window.specs.declared.Refusal.{Refusal}
 use Rattle.window.specs.Windows.{Window, row1}
 use Rattle.window.specs.Plans.{refusal}
 use Rattle.text.specs.Scan.{start}
-use Rattle.text.specs.Load.{headerOf}
-use Rattle.storing.proofs.HeaderLaws.{zeros, padding}
 use Rattle.parts.specs.Parts.{stage, stopped, begun}
 use Rattle.parts.specs.Parts.Status.{going, halted}
 use Rattle.parts.specs.Stretches.{fresh}
 use Rattle.session.specs.declared.Session.{Session}
 use Rattle.session.specs.Sessions.{goingOf, statusOf}
-use Rattle.session.proofs.HoldLaws.{take-within}
 
 -- a refused state shows its refusal
 pub shows-refusal : (r : Session) (f : Refusal) → r .refusal ≡ f → 0 < f .reason → statusOf r ≡ halted f
@@ -28,17 +23,6 @@ shows-refusal r f e h = rw (e, ne-eqb (f .reason) 0 (λ z. omega arith))
 -- one without a refusal shows its load
 pub shows-going : (r : Session) → r .refusal .reason ≡ 0 → statusOf r ≡ going (goingOf r)
 shows-going r e = rw (eq-eqb (r .refusal .reason) 0 e)
-
--- the bytes that are shown, and zeros behind them
-pub header-shown : (bytes : List ℕ) (len n : ℕ) (out : List ℕ) → length bytes ≡ 252 → n ≡ min len 252 → out ≡ take n bytes ++ drop n zeros
-    → record { len = n; bytes = out } ≡ headerOf (take len bytes)
-header-shown bytes len n out long e q =
-    let h : length (take n bytes) ≡ n = length-take-le n bytes (omega arith) in
-    (λ i. record {
-      len = sym h i;
-      bytes = (q ∙ ap (λ (x : List ℕ). take n bytes ++ x) (padding n (omega arith) ∙ ap (λ (j : ℕ). replicate (252 - j) 0) (sym h))) i;
-    })
-    ∙ ap headerOf (sym (take-within bytes 252 n len long e))
 
 -- ---- begin
 

@@ -1,12 +1,11 @@
 -- Held characters as they are shown: a line end counts as NUL, and every other character as itself.
-use mathlib.Core.Path.{_≡_, refl, sym, ap, _∙_}
+use mathlib.Core.Path.{_≡_, refl, ap, _∙_}
 use Prim.Native.Nat.{ℕ, zero, suc, _+_, _<_}
-use native.Mathlib.Numerals.{add-one}
+use native.Mathlib.Nat.{le-of-suc-le-suc, not-suc-le-zero}
 use native.Mathlib.Omega.{arith}
 use mathlib.Core.Bool.{false}
-use mathlib.Core.List.{List, [], _∷_, _++_, map, append-assoc}
-use lib.ListN.{length, getD, take, drop, set, length-map}
-use lib.Seq.{take-suc, drop-cons, set-at, getD-append-seam, length-take-le}
+use mathlib.Core.List.{List, [], _∷_, _++_, map}
+use lib.ListN.{length, getD, take}
 use Rattle.lists.proofs.TestLaws.{by-test}
 use Rattle.text.specs.Lines.{front}
 use Rattle.srec.specs.Lines.{isEnd}
@@ -52,21 +51,8 @@ shown-more cs ds e =
 
 -- ---- the loop of `hide_ends`
 
-module _ (cs : List ℕ) (i : ℕ) (h : i < length cs) where
-  long : length (map visible (take i cs)) ≡ i
-  long = length-map (take i cs) visible ∙ length-take-le i cs (omega arith)
-
-  -- the next character is still as it was
-  pub hide-next : getD (map visible (take i cs) ++ drop i cs) i 0 ≡ getD cs i 0
-  hide-next =
-      rw (drop-cons cs i 0 h)
-      (ap (λ (j : ℕ). getD (map visible (take i cs) ++ (getD cs i 0 ∷ drop (suc i) cs)) j 0) (sym long)
-      ∙ getD-append-seam (map visible (take i cs)) (getD cs i 0) (drop (suc i) cs) 0)
-
-  -- it is hidden
-  pub hide-more : set (map visible (take i cs) ++ drop i cs) i (visible (getD cs i 0)) ≡ map visible (take (i + 1) cs) ++ drop (i + 1) cs
-  hide-more =
-      rw (drop-cons cs i 0 h, add-one i, take-suc cs i 0 h)
-      (set-at (map visible (take i cs)) (getD cs i 0) (drop (suc i) cs) (visible (getD cs i 0)) i long
-      ∙ sym (ap (λ (r : List ℕ). r ++ drop (suc i) cs) (shown-append (take i cs) (getD cs i 0 ∷ []))
-      ∙ append-assoc (map visible (take i cs)) (visible (getD cs i 0) ∷ []) (drop (suc i) cs)))
+-- the character at an index, as it is shown
+pub shown-at : (cs : List ℕ) (i : ℕ) → i < length cs → visible (getD cs i 0) ≡ getD (map visible cs) i 0
+shown-at [] i h = absurd (not-suc-le-zero h)
+shown-at (c ∷ cs) zero h = refl
+shown-at (c ∷ cs) (suc i) h = shown-at cs i (le-of-suc-le-suc h)

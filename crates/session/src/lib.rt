@@ -10,7 +10,7 @@ ghost use Prim.Native.Nat.{_+_, _^_, _≤_, _<_, min};
 ghost use lib.ListN.{length, take, replicate};
 ghost use Rattle.window.specs.Windows.{windowOf};
 ghost use Rattle.text.specs.Lines.{front};
-ghost use Rattle.text.specs.Load.{headerOf};
+ghost use Rattle.window.specs.Headers.{headerOf};
 ghost use Rattle.srec.specs.Lines.{isEnd};
 ghost use Rattle.parts.specs.Parts.{begun, possible, row1Later, answered};
 ghost use Rattle.parts.specs.Parts.Status.{halted};
@@ -191,12 +191,7 @@ fn header_from(header: [u8; 252], len: usize) -> Header
     ensures { λ r. ⌜ r ≡ headerOf (take len header) ⌝ }
 {
     let n = marks::smaller(len, MOST_HEADER);
-    let mut clean = [0u8; 252];
-    bytes::copy(&header[..n], &mut clean);
-    Header {
-        len: n,
-        bytes: clean,
-    }
+    window::header_from(&header[..n])
 }
 
 // What a state behind its end answers: its refusal; row 14, where no terminator was read; or what its records said. Held characters

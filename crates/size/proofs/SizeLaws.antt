@@ -6,8 +6,8 @@ use native.Mathlib.Omega.{arith}
 use mathlib.Core.List.{List, [], _∷_, _++_, map}
 use mathlib.Core.Option.{some}
 use lib.ListN.{length, take, drop, length-append}
-use Rattle.window.specs.Cells.{Cell, cells, shown}
-use Rattle.window.proofs.CellLaws.{cellsOf, flat, length-cells}
+use Rattle.window.specs.Cells.{Cell, cells, shown, cellsOf, flat}
+use Rattle.window.proofs.CellLaws.{length-cells}
 use Rattle.text.specs.Runs.{runs}
 use Rattle.window.specs.Walks.{unmarked}
 use Rattle.text.proofs.RunLaws.{flat-runs}

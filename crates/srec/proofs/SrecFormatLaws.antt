@@ -18,7 +18,8 @@ use Rattle.text.proofs.RunLaws.{good-runs, cells-ok}
 use Rattle.text.proofs.FormatLaws.{Storable, Gives, summaryOf, NoRow, Lawful}
 use Rattle.srec.specs.Reading.{read}
 use Rattle.srec.specs.Canonical.{follow, largest, widthFor, canonical}
-use Rattle.srec.specs.Formats.{row15, row18, rows, srec}
+use Rattle.srec.specs.Formats.{row18, rows, srec}
+use Rattle.window.specs.Headers.{row15}
 use Rattle.srec.proofs.LimitLaws.{limits, shared, judged-says, step-ok}
 use Rattle.srec.proofs.CanonicalLaws.{Writable, text-gives}
 use Rattle.srec.proofs.FitLaws.{in-largest, entry-largest, largest-below, wide-enough, width-is, all-fit, end-fit, head-fit}

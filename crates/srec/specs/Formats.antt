@@ -2,10 +2,9 @@
 use Prim.Native.Nat.{ℕ}
 use mathlib.Core.Bool.{Bool, not}
 use mathlib.Core.List.{List, [], _∷_}
-use lib.Dec.{ltb}
-use lib.ListN.{length}
 use Rattle.window.specs.declared.Entry.{Entry}
 use Rattle.window.specs.Windows.{Window, firstBadMark, row16}
+use Rattle.window.specs.Headers.{row15}
 use Rattle.window.specs.Plans.{isPresent}
 use Rattle.text.specs.Formats.{Row, Format}
 use Rattle.text.specs.Write.{rowOf}
@@ -13,10 +12,6 @@ use Rattle.srec.specs.Lines.{isEnd}
 use Rattle.srec.specs.Reading.{read}
 use Rattle.srec.specs.Judging.{carried, judged}
 use Rattle.srec.specs.Canonical.{canonical}
-
--- row 15: the header has more than 252 bytes
-unfoldable pub row15 : List ℕ → Bool
-row15 header = ltb 252 (length header)
 
 -- row 18: there is no entry
 unfoldable pub row18 : Entry → Bool

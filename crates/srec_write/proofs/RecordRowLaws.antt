@@ -13,7 +13,8 @@ use Rattle.text.specs.Write.{textOf, row17, write}
 use Rattle.text.specs.Write.WriteOutcome.{declined, wrote}
 use Rattle.text.proofs.WriteLaws.{Call, outcome}
 use Rattle.srec.specs.Canonical.{widthFor}
-use Rattle.srec.specs.Formats.{row15, row18, srec}
+use Rattle.srec.specs.Formats.{row18, srec}
+use Rattle.window.specs.Headers.{row15}
 use Rattle.formats.specs.declared.Format.the-variants.{Records}
 use Rattle.size.specs.declared.Size.{Size}
 use Rattle.size.specs.Sizes.{sizeOf}

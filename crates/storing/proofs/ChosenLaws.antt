@@ -5,7 +5,7 @@ use mathlib.Core.List.{List}
 use Rattle.window.specs.declared.Header.{Header}
 use Rattle.text.specs.Lines.{lines}
 use Rattle.text.specs.Finds.{firstHeader}
-use Rattle.text.specs.Load.{headerOf}
+use Rattle.window.specs.Headers.{headerOf}
 use Rattle.formats.specs.declared.Format.{Format}
 use Rattle.formats.specs.Choices.{formatOf}
 use Rattle.storing.specs.Stores.{storedBy, Placeable}

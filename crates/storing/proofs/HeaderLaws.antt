@@ -1,14 +1,14 @@
--- The header's array, and the header that a record holds.
+-- The header that a record holds.
 use mathlib.Core.Path.{_≡_, refl, sym, ap, _∙_, subst}
-use Prim.Native.Nat.{ℕ, zero, suc, _+_, _-_, _*_, _≤_}
-use native.Mathlib.Nat.{zero-add, suc-add}
+use Prim.Native.Nat.{ℕ, zero, _+_, _-_, _*_, _≤_}
 use native.Mathlib.Omega.{arith}
 use mathlib.Core.List.{List, [], _++_}
 use lib.ListN.{length, getD, take, drop, replicate}
 use lib.Seq.{length-take-le}
 use mathlib.Core.Option.{some}
 use Rattle.hex.specs.Digits.{bytes}
-use Rattle.text.specs.Load.{headerOf}
+use Rattle.window.proofs.HeaderLaws.{zeros, padding}
+use Rattle.window.specs.Headers.{headerOf}
 use Rattle.text.specs.Terms.{headerIn}
 use Rattle.srec.specs.Kinds.{Kind, kindOf, typeOf}
 use Rattle.srec.specs.Kinds.Kind.{S0, Data, S5, End}
@@ -20,25 +20,6 @@ use Rattle.srec_read.specs.declared.Record.the-variants.{Bad}
 use Rattle.srec_read.specs.Records.{asRecord}
 use Rattle.srec_read.proofs.FieldLaws.{Fields, read-fields, Got}
 use Rattle.srec_read.proofs.KindLaws.{type-of-kind}
-
--- ---- the header's array
-
--- the array before it is filled
-abbrev pub zeros : List ℕ
-zeros = replicate 252 0
-
--- behind the first n of n + k zeros stand k zeros
-drop-zeros : (n k : ℕ) → drop n (replicate {A = ℕ} (n + k) 0) ≡ replicate k 0
-drop-zeros zero k = ap (λ (j : ℕ). replicate j 0) (zero-add k)
-drop-zeros (suc n) k = ap (λ (j : ℕ). drop (suc n) (replicate {A = ℕ} j 0)) (suc-add n k) ∙ drop-zeros n k
-
--- behind the first n bytes the array stays zero
-pub padding : (n : ℕ) → n ≤ 252 → drop n zeros ≡ replicate (252 - n) 0
-padding n h =
-    let m : 252 ≡ n + (252 - n) = omega arith in
-    ap (λ (j : ℕ). drop n (replicate {A = ℕ} j 0)) m ∙ drop-zeros n (252 - n)
-
--- ---- the header that a record holds
 
 -- a record that carries no header has the empty one
 no-header : (chars : List ℕ) → headerIn (carried (read chars)) [] ≡ [] → headerOf [] ≡ headerOf (headerIn (carried (read chars)) [])

@@ -11,7 +11,7 @@ use Rattle.hex.proofs.PairLaws.{take-bytes, drop-bytes}
 use Rattle.text.specs.Lines.{Line}
 use Rattle.text.specs.Scan.Step.{put}
 use Rattle.text.specs.Finds.{firstHeader}
-use Rattle.text.specs.Load.{headerOf}
+use Rattle.window.specs.Headers.{headerOf}
 use Rattle.text.specs.Terms.{headerIn}
 use Rattle.tape.specs.Reading.{Read, lengthIn, addressIn, dataIn, isLast, read}
 use Rattle.tape.specs.Reading.Read.{good, bad}

@@ -15,7 +15,8 @@ ghost use Rattle.window.specs.Plans.{placed};
 ghost use Rattle.text.specs.Lines.{lines};
 ghost use Rattle.text.specs.Finds.{firstHeader};
 ghost use Rattle.text.specs.Formats.{plan};
-ghost use Rattle.text.specs.Load.{headerOf, memoryAfter};
+ghost use Rattle.text.specs.Load.{memoryAfter};
+ghost use Rattle.window.specs.Headers.{headerOf};
 ghost use Rattle.text.specs.Terms.{headerIn};
 ghost use Rattle.srec.specs.Reading.{read};
 ghost use Rattle.srec.specs.Judging.{carried};
@@ -120,16 +121,6 @@ pub fn store_all(format: Format, table: &[u32; 256], text: &[u8], base: usize, m
     }
 }
 
-// A header of no bytes.
-fn no_header() -> Header
-    ensures { λ r. ⌜ r ≡ headerOf [] ⌝ }
-{
-    Header {
-        len: 0,
-        bytes: [0u8; 252],
-    }
-}
-
 // The header that a record holds: the data of an S0, or none.
 fn header_in(table: &[u32; 256], chars: &[u8]) -> Header
     requires { ⌜ now table ≡ digitTable ⌝ }
@@ -137,10 +128,10 @@ fn header_in(table: &[u32; 256], chars: &[u8]) -> Header
 {
     let answer = srec_read::read_record(table, chars, 0);
     let Record::Good(kind, _, count) = answer else {
-        return no_header();
+        return window::no_header();
     };
     if kind != b'0' {
-        return no_header();
+        return window::no_header();
     }
     let mut bytes = [0u8; 252];
     store_data(table, &mut bytes[..count], chars, 8);
@@ -154,7 +145,7 @@ fn first_header(table: &[u32; 256], text: &[u8]) -> Header
 {
     let found = lines::next_line(Format::Records, text, 0);
     let Found::At { from, to } = found else {
-        return no_header();
+        return window::no_header();
     };
     header_in(table, &text[from..to])
 }
@@ -166,6 +157,6 @@ pub fn header_of(format: Format, table: &[u32; 256], text: &[u8]) -> Header
 {
     match format {
         Format::Records => first_header(table, text),
-        Format::Tape(_) => no_header(),
+        Format::Tape(_) => window::no_header(),
     }
 }

@@ -13,11 +13,11 @@ use Rattle.window.specs.declared.Refusal.{Refusal}
 use Rattle.window.specs.declared.Entry.{Entry}
 use Rattle.window.specs.Windows.{Window, row1, Allowed, row16, Marked}
 use Rattle.window.specs.Images.{Image, blank, mark, marksOf}
-use Rattle.window.specs.Cells.{Cell, Run, cells, Addressed, shown, total}
+use Rattle.window.specs.Cells.{Cell, Run, cells, Addressed, shown, total, flat}
 use Rattle.window.specs.Plans.{Summary, refusal, Plan, Outcome, placed}
 use Rattle.window.specs.Plans.Plan.{done}
 use Rattle.window.specs.Plans.Outcome.{refused, accepted}
-use Rattle.window.proofs.CellLaws.{In, cells-blank, total-flat, flat}
+use Rattle.window.proofs.CellLaws.{In, cells-blank, total-flat}
 use Rattle.window.proofs.OrderLaws.{rising-image}
 use Rattle.window.proofs.PlanLaws.{stores, final, Accepted as PlanAccepted, placed-inv}
 use Rattle.window.proofs.FillLaws.{left-by, count-fill}

@@ -1,23 +1,19 @@
 -- A load as its caller sees it: the answer, and memory and marks afterwards (01, "The window and what comes back").
-use Prim.Native.Nat.{ℕ, _-_}
+use Prim.Native.Nat.{ℕ}
 use mathlib.Core.Bool.{cond}
-use mathlib.Core.List.{List, [], _++_}
+use mathlib.Core.List.{List, []}
 use lib.ListN.{length, replicate}
 use Rattle.window.specs.declared.Entry.the-variants.{Absent}
 use Rattle.window.specs.Windows.{Window, row1}
 use Rattle.window.specs.Images.{blank, marksOf, overlaid}
+use Rattle.window.specs.Headers.{headerOf}
 use Rattle.window.specs.Plans.{refusal, Plan, Outcome, placed}
 use Rattle.window.specs.Plans.Outcome.{refused, accepted}
-use Rattle.window.specs.declared.Header.{Header}
 use Rattle.window.specs.declared.Loaded.{Loaded}
 
 -- row 1 first; then the lines, with the window's rows among them, and row 14
 unfoldable pub load : Window → Plan → Outcome
 load W p = cond (row1 W) (refused (refusal 1 0 0)) (placed (W .base) (blank (length (W .memory))) p)
-
--- 01's "its length and 252 bytes by value, zero after the length"
-abbrev pub headerOf : List ℕ → Header
-headerOf h = record { len = length h; bytes = h ++ replicate (252 - length h) 0 }
 
 -- 01 leaves the refusal of an accepted load free; here its three numbers are 0. Its byte is 0 by Req 01
 abbrev pub loadAnswer : Outcome → Loaded

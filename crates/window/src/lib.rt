@@ -1,8 +1,12 @@
 // A window of lent memory: what is refused, and what a load and a write answer.
 ghost use mathlib.Core.Path.{_≡_};
 ghost use mathlib.Core.Bool.{not};
+ghost use mathlib.Core.List.{[]};
+ghost use Prim.Native.Nat.{_≤_};
+ghost use lib.ListN.{length};
 ghost use Rattle.window.specs.Windows.{windowOf, row1};
 ghost use Rattle.window.specs.Plans.{refusalWith, refusal};
+ghost use Rattle.window.specs.Headers.{headerOf};
 
 // Behind the last address.
 const TOP: usize = 1 << 32;
@@ -64,6 +68,29 @@ pub fn refuse(reason: u32, ordinal: usize, place: usize) -> Refusal
     ensures { λ r. ⌜ r ≡ refusal reason ordinal place ⌝ }
 {
     refuse_with(reason, ordinal, place, 0)
+}
+
+// A header of no bytes.
+pub fn no_header() -> Header
+    ensures { λ r. ⌜ r ≡ headerOf [] ⌝ }
+{
+    Header {
+        len: 0,
+        bytes: [0u8; 252],
+    }
+}
+
+// A header of these bytes.
+pub fn header_from(bytes: &[u8]) -> Header
+    requires { ⌜ length (now bytes) ≤ 252 ⌝ }
+    ensures { λ r. ⌜ r ≡ headerOf (now (bytes .entry)) ⌝ }
+{
+    let mut clean = [0u8; 252];
+    bytes::copy(bytes, &mut clean);
+    Header {
+        len: bytes.len(),
+        bytes: clean,
+    }
 }
 
 // Row 1 does not apply: there is a mark for each memory byte, and no cell behind the last address.

@@ -4,14 +4,15 @@
 //! comes back. `properties` asks of the library alone what must hold of texts
 //! that are loaded and written again. These take the format, S-records or tapes
 //! (`format`). `answers` compares whole answers, by way of the program
-//! `vectors`, and `parts` loads in parts, by way of the program `calls`.
-//! `examples` holds the files of the examples folder to the second
-//! reading.
+//! `vectors`, `parts` loads in parts, by way of the program `calls`, and `overlay`
+//! patches over a base image, by way of the program `patches`. `examples` holds
+//! the files of the examples folder to the second reading.
 
 pub mod answers;
 pub mod examples;
 pub mod format;
 pub mod loads;
+pub mod overlay;
 pub mod parts;
 pub mod properties;
 pub mod settings;
@@ -23,5 +24,6 @@ mod library;
 mod program;
 mod tally;
 mod texts;
+mod walks;
 
 pub use guarded::guards_notice;

@@ -8,7 +8,6 @@ use crate::tally::Tally;
 use second::cases::cuts::WAYS;
 use second::cases::series::{series_case, Drawn, Trick, TRICKS};
 use second::cases::{FULL, LOAD_NUMBERS, SMALL};
-use std::fmt::Debug;
 
 /// The part of a text that is too long.
 const ROW_20: u32 = 20;
@@ -38,13 +37,8 @@ pub fn drawn(settings: &Settings) -> Result<String, String> {
     let compared = batch.compared;
     Ok(format!(
         "{compared} series of calls; {}; {}; {}",
-        told("rows", &numbers)?,
-        told("cuts", &cuts)?,
-        told("tricks", &tricks)?
+        numbers.told("rows")?,
+        cuts.told("cuts")?,
+        tricks.told("tricks")?
     ))
-}
-
-fn told<T: Ord + Debug>(name: &str, tally: &Tally<T>) -> Result<String, String> {
-    let told = |counts| format!("{name}: {counts}");
-    tally.complete().map(told).map_err(told)
 }

@@ -1,6 +1,7 @@
 //! Programs over the proved library that read cases from standard input and
 //! print an answer to each.
 
+use crate::walks;
 use second::script::ROOM;
 use std::env;
 use std::io::Write;
@@ -11,6 +12,11 @@ use std::process::{Command, Stdio};
 pub trait Case {
     fn script(&self) -> Vec<u8>;
     fn answer(&self) -> Vec<u8>;
+
+    /// Asks of what was printed alone whether it can be right.
+    fn hold(&self, _printed: &[u8]) -> Result<(), String> {
+        Ok(())
+    }
 }
 
 impl Case for second::script::Case {
@@ -33,6 +39,20 @@ impl Case for second::calls::Case {
     }
 }
 
+impl Case for second::patches::Case {
+    fn script(&self) -> Vec<u8> {
+        self.script()
+    }
+
+    fn answer(&self) -> Vec<u8> {
+        self.answer()
+    }
+
+    fn hold(&self, printed: &[u8]) -> Result<(), String> {
+        walks::hold(self.start, printed)
+    }
+}
+
 /// A program of target/bin, unless the variable names another.
 #[derive(Clone, Copy)]
 pub struct Program {
@@ -48,6 +68,11 @@ pub const VECTORS: Program = Program {
 pub const CALLS: Program = Program {
     name: "calls",
     variable: "CALLS",
+};
+
+pub const PATCHES: Program = Program {
+    name: "patches",
+    variable: "PATCHES",
 };
 
 /// The cases of one run of a program.
@@ -100,6 +125,8 @@ fn compare<C: Case>(cases: &[C], printed: &[u8]) -> Result<(), String> {
             let text = text.escape_ascii();
             return Err(format!("\"{text}\" gives\n\"{got}\", not\n\"{wanted}\""));
         };
+        let failed = |error| format!("\"{}\": {error}", case.script().escape_ascii());
+        case.hold(&rest[..wanted.len()]).map_err(failed)?;
         rest = behind;
     }
     if !rest.is_empty() {

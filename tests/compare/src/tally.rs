@@ -36,6 +36,12 @@ impl<T: Ord + Debug> Tally<T> {
             Some((thing, _)) => Err(format!("{thing:?} never came up: {self}")),
         }
     }
+
+    /// The same behind a name.
+    pub fn told(&self, name: &str) -> Result<String, String> {
+        let told = |counts| format!("{name}: {counts}");
+        self.complete().map(told).map_err(told)
+    }
 }
 
 impl<T: Ord + Debug> Display for Tally<T> {

@@ -11,6 +11,7 @@ mod faults;
 mod faulty;
 mod large;
 mod odd;
+pub mod overlays;
 pub mod series;
 pub mod tapes;
 mod valid;

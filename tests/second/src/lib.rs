@@ -2,14 +2,17 @@
 //!
 //! `reading` is the loader and the writer in their plainest form, and `tape`
 //! those of MOS Technology tapes. `parts` is a load of S-records in parts, a
-//! program of its own. `cases` draws texts, windows and images that reach every
-//! row of the refusal table, from the numbers of `random`. `script` has cases
-//! and answers in the form of the program `vectors`, and `calls` in that of the
-//! program `calls`.
+//! program of its own. `overlay` lays a patch over a base image. `cases` draws
+//! texts, windows and images that reach every row of the refusal table, from the
+//! numbers of `random`. `script` has cases and answers in the form of the program
+//! `vectors`, `calls` in that of the program `calls`, and `patches` in that of the
+//! program `patches`.
 
 pub mod calls;
 pub mod cases;
+pub mod overlay;
 pub mod parts;
+pub mod patches;
 pub mod random;
 pub mod reading;
 pub mod script;

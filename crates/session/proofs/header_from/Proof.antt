@@ -1,12 +1,10 @@
--- `header_from` meets its contract: the bytes that are shown are copied over zeros.
+-- `header_from` meets its contract: no more bytes are shown than there are.
 use mathlib.Core.Path.{_≡_, sym, ap, _∙_}
-use Prim.Native.Nat.{ℕ}
 use native.Mathlib.Omega.{arith}
-use mathlib.Core.List.{List, _++_}
-use lib.ListN.{length, take, drop}
-use lib.Seq.{take-all, length-take-le}
-use Rattle.storing.proofs.HeaderLaws.{zeros}
-use Rattle.session.proofs.SessionLaws.{header-shown}
+use lib.ListN.{length, take}
+use lib.Seq.{length-take-le}
+use Rattle.window.specs.Headers.{headerOf}
+use Rattle.session.proofs.HoldLaws.{take-within}
 use borrow.Author.Needs.{needs}
 use Rattle.session.proofs.header_from.Statement.{statement}
 use Rattle.session.proofs.header_from.Tie as tie
@@ -18,28 +16,17 @@ long c = search needs
 shown : (c : tie.After-smaller) → length (take (c .smaller .result) (c .before .args .t1)) ≡ c .smaller .result
 shown c = length-take-le (c .smaller .result) (c .before .args .t1) (omega (arith, c .smaller .ensures, long (c .before)))
 
-slice-aggregate-copy : tie.Need-slice-aggregate-copy
-slice-aggregate-copy c = sym (shown (c .before))
+slice-aggregate-header-from : tie.Need-slice-aggregate-header-from
+slice-aggregate-header-from c = sym (shown (c .before))
 
-copy-requires : tie.Need-copy-requires
-copy-requires c κs = omega (arith, shown (c .before .before), c .before .before .smaller .ensures)
+header-from-requires : tie.Need-header-from-requires
+header-from-requires c κs = omega (arith, shown (c .before), c .before .smaller .ensures)
 
 returns : tie.Need-returns
 returns c =
-    let j = c .before .before .before .before in
+    let j = c .before .before in
     let bytes = j .before .args .t1 in
-    let n = j .smaller .result in
-    header-shown bytes (j .before .args .len) n _ (long (j .before)) (j .smaller .ensures)
-    (c .before .copy .ensures .1 ∙ ap (λ (i : ℕ). take i (take n bytes) ++ drop i zeros) (shown j)
-    ∙ ap (λ (x : List ℕ). x ++ drop n zeros) (take-all n (take n bytes) (omega (arith, shown j))))
+    c .header-from .ensures ∙ ap headerOf (sym (take-within bytes 252 (j .smaller .result) (j .before .args .len) (long (j .before)) (j .smaller .ensures)))
 
 pub header-from-spec : {M : Type 1} → statement M
-header-from-spec =
-    tie.close
-    (tie.spec
-    (λ c κs. search needs)
-    (λ c. search needs)
-    slice-aggregate-copy
-    (λ c. search needs)
-    copy-requires
-    returns)
+header-from-spec = tie.close (tie.spec (λ c κs. search needs) (λ c. search needs) slice-aggregate-header-from header-from-requires returns)

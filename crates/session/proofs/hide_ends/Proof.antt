@@ -2,17 +2,17 @@
 use mathlib.Core.Path.{_≡_, refl, ap, _∙_}
 use Prim.Native.Nat.{ℕ, _-_, _≤_, _<_}
 use native.Mathlib.Omega.{arith}
-use mathlib.Core.List.{List, _++_, map, append-nil}
-use lib.ListN.{length, getD, take, drop, set, length-set}
-use lib.Seq.{take-all, drop-length}
+use mathlib.Core.List.{List, map}
+use lib.ListN.{length, getD, length-map, length-set}
+use Rattle.lists.proofs.RenewLaws.{renewed, still-old, renew-turn, renew-end}
 use Rattle.session.specs.Sessions.{visible}
-use Rattle.session.proofs.VisibleLaws.{hide-next, hide-more}
+use Rattle.session.proofs.VisibleLaws.{shown-at}
 use borrow.Author.Needs.{needs}
 use Rattle.session.proofs.hide_ends.Statement.{statement}
 use Rattle.session.proofs.hide_ends.Tie as tie
 
 abbrev Inv-loop : tie.InvT-loop
-Inv-loop chars₀ i₀ chars i = (i ≤ length chars₀) × (length chars ≡ length chars₀) × (chars ≡ map visible (take i chars₀) ++ drop i chars₀)
+Inv-loop chars₀ i₀ chars i = (i ≤ length chars₀) × (length chars ≡ length chars₀) × (chars ≡ renewed chars₀ (map visible chars₀) i)
 
 abbrev μ-loop : tie.MeasureT-loop
 μ-loop chars₀ i₀ chars i = length chars₀ - i
@@ -23,18 +23,15 @@ loop-again c =
     let l = k .loop in
     let cs = k .before .before .args .chars .now in
     let h : l .i < length cs = omega arith in
-    let next = c .seen .ensures ∙ ap visible (ap (λ (xs : List ℕ). getD xs (l .i) 0) (l .inv .2) ∙ hide-next cs (l .i) h) in (
-      omega arith,
-      simp length-set (l .inv .1),
-      (λ j. set (l .inv .2 j) (l .i) (next j)) ∙ hide-more cs (l .i) h,
-    )
+    let old = ap (λ (xs : List ℕ). getD xs (l .i) 0) (l .inv .2) ∙ still-old cs (map visible cs) (l .i) (length-map cs visible) h in
+    let new = c .seen .ensures ∙ ap visible old ∙ shown-at cs (l .i) h in
+    (omega arith, simp length-set (l .inv .1), renew-turn cs (map visible cs) (l .chars) (l .i) (c .seen .result) (length-map cs visible) h (l .inv .2) new)
 
 returns : tie.Need-returns Inv-loop μ-loop
 returns c =
     let l = c .before .loop in
     let cs = c .before .before .before .args .chars .now in
-    let e : l .i ≡ length cs = omega arith in
-    l .inv .2 ∙ rw (e, drop-length, append-nil) (ap (λ (xs : List ℕ). map visible xs) (take-all (length cs) cs (omega arith)))
+    renew-end cs (map visible cs) (l .chars) (l .i) (length-map cs visible) (omega arith) (l .inv .2)
 
 pub hide-ends-spec : {M : Type 1} → statement M
 hide-ends-spec =

@@ -2,7 +2,7 @@
 use mathlib.Core.Path.{sym, ap, _∙_}
 use Prim.Native.Nat.{zero-le}
 use native.Mathlib.Omega.{arith}
-use Rattle.text.specs.Load.{headerOf}
+use Rattle.window.specs.Headers.{headerOf}
 use Rattle.text.specs.Finds.{firstHeader}
 use Rattle.text.proofs.FindLaws.{Next, next-is, next-none}
 use Rattle.srec.specs.Lines.{isEnd}

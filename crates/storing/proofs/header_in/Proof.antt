@@ -6,7 +6,8 @@ use lib.ListN.{length, take}
 use lib.Seq.{length-take-le}
 use Rattle.srec_read.proofs.FieldLaws.{Got, got}
 use Rattle.storing.proofs.DataLaws.{digits-from}
-use Rattle.storing.proofs.HeaderLaws.{zeros, header-bad, header-other, header-s0}
+use Rattle.storing.proofs.HeaderLaws.{header-bad, header-other, header-s0}
+use Rattle.window.proofs.HeaderLaws.{zeros}
 use borrow.Author.Needs.{needs}
 use Rattle.storing.proofs.header_in.Statement.{statement}
 use Rattle.storing.proofs.header_in.Tie as tie

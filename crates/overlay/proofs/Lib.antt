@@ -1,0 +1,9 @@
+pub mod AlignedLaws
+pub mod ExtentLaws
+pub mod RefusalLaws
+pub mod SourceLaws
+pub mod InsideLaws
+pub mod Facts
+pub mod Walking
+pub mod LeaveLaws
+pub mod Examples

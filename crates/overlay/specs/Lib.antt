@@ -1,0 +1,6 @@
+pub mod Layers
+pub mod Refusals
+pub mod Looks
+pub mod Merges
+pub mod Facts
+pub mod Examples

@@ -1,0 +1,139 @@
+//! What must hold of the looks and merges of a case, by what the program `patches`
+//! printed alone.
+//!
+//! Before a merge, every cell of the window is looked at.
+
+use std::collections::BTreeMap;
+
+/// A look, with its part and its word.
+pub struct Look {
+    address: u64,
+    part: Vec<u8>,
+    pub word: String,
+}
+
+/// A merge, and the base image behind it.
+pub struct Merge {
+    pub number: u32,
+    memory: Vec<u8>,
+    marks: Vec<u8>,
+}
+
+pub enum Printed {
+    Look(Look),
+    Merge(Merge),
+}
+
+/// The looks by their addresses. A later one takes the place of an earlier.
+type Looks = BTreeMap<u64, Look>;
+
+/// All that was printed behind the heading.
+pub fn read(printed: &[u8]) -> Option<Vec<Printed>> {
+    let text = std::str::from_utf8(printed).ok()?;
+    let mut lines = text.strip_suffix('\n')?.split('\n').skip(1);
+    let mut all = Vec::new();
+    while let Some(line) = lines.next() {
+        all.push(if let Some(look) = line.strip_prefix("look ") {
+            Printed::Look(read_look(look)?)
+        } else {
+            let (number, _) = line.strip_prefix("merge ")?.split_once(' ')?;
+            Printed::Merge(Merge {
+                number: number.parse().ok()?,
+                memory: bytes(lines.next()?.strip_prefix("memory ")?)?,
+                marks: bytes(lines.next()?.strip_prefix("marks ")?)?,
+            })
+        });
+    }
+    Some(all)
+}
+
+/// An address, a part in brackets and a word; of a refusal its number belongs to
+/// the word.
+fn read_look(words: &str) -> Option<Look> {
+    let (address, rest) = words.split_once(" [")?;
+    let (part, rest) = rest.split_once("] ")?;
+    let word = rest.split_once(" record ").map_or(rest, |(word, _)| word);
+    Some(Look {
+        address: u64::from_str_radix(address, 16).ok()?,
+        part: bytes(part)?,
+        word: word.to_string(),
+    })
+}
+
+fn bytes(digits: &str) -> Option<Vec<u8>> {
+    let pairs = (0..digits.len()).step_by(2);
+    let byte = |at| u8::from_str_radix(digits.get(at..at + 2)?, 16).ok();
+    pairs.map(byte).collect()
+}
+
+/// Holds the looks before each accepted merge to that merge.
+pub fn hold(start: u32, printed: &[u8]) -> Result<(), String> {
+    let mut looks = Looks::new();
+    for thing in read(printed).ok_or("a line that no look or merge prints")? {
+        match thing {
+            Printed::Look(look) => drop(looks.insert(look.address, look)),
+            Printed::Merge(merge) if merge.number == 0 => {
+                let start = u64::from(start);
+                let end = start + merge.memory.len() as u64;
+                for address in start..end {
+                    is_longest(&looks, address, end)
+                        .map_err(|error| format!("the look at {address:08X} {error}"))?;
+                }
+                walk(&looks, start, &merge)?;
+            }
+            Printed::Merge(_) => {}
+        }
+    }
+    Ok(())
+}
+
+/// The cells of a part have one word, and the cell behind it has another.
+fn is_longest(looks: &Looks, address: u64, end: u64) -> Result<(), String> {
+    let look = looks.get(&address).ok_or("is missing")?;
+    let Look { part, word, .. } = look;
+    if !["patch", "base", "neither"].contains(&&word[..]) {
+        return Err(format!("is {word}, and the merge is not"));
+    }
+    if part.is_empty() != (word == "neither") {
+        return Err(format!("shows {part:02X?} of {word}"));
+    }
+    let behind = address + part.len() as u64;
+    if behind > end {
+        return Err("goes past the window".to_string());
+    }
+    if let [_, rest @ ..] = &part[..] {
+        let next = looks.get(&(address + 1));
+        let same = |next: &Look| next.word == *word && next.part == rest;
+        if !rest.is_empty() && !next.is_some_and(same) {
+            return Err("has another rest than the next one".to_string());
+        }
+        let other = |next: &Look| next.word != *word;
+        if behind < end && !looks.get(&behind).is_some_and(other) {
+            return Err("ends before a cell of the same image".to_string());
+        }
+    }
+    Ok(())
+}
+
+/// From the start of the window on, behind each part, or at the next cell where it
+/// is empty: these are the cells of the merged image, with their bytes.
+fn walk(looks: &Looks, start: u64, merge: &Merge) -> Result<(), String> {
+    let length = merge.memory.len();
+    let mut shown: Vec<Option<u8>> = Vec::new();
+    while shown.len() < length {
+        let address = start + shown.len() as u64;
+        let part = looks.get(&address).map_or(&[][..], |look| &look.part);
+        match part {
+            [] => shown.push(None),
+            _ => shown.extend(part.iter().map(|&byte| Some(byte))),
+        }
+    }
+    let cells = merge.memory.iter().zip(&merge.marks);
+    let cells: Vec<Option<u8>> = cells.map(|(&b, &m)| (m == 1).then_some(b)).collect();
+    if shown != cells {
+        return Err(format!(
+            "the looks show {shown:02X?}, and the merge leaves {cells:02X?}"
+        ));
+    }
+    Ok(())
+}
