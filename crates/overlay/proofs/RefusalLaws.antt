@@ -95,7 +95,7 @@ pub record Passed (unfit long : Bool) (base patch : Bad) : Type 0 where
 never : {A : Type 0} (n : ℕ) → eqb (suc n) 0 ≡ true → A
 never n e = absurd (omega (arith, eqb-true (suc n) 0 e))
 
-passed : (unfit long : Bool) (base patch : Bad) → passes (firstRow unfit long base patch) ≡ true → Passed unfit long base patch
+pub passed : (unfit long : Bool) (base patch : Bad) → passes (firstRow unfit long base patch) ≡ true → Passed unfit long base patch
 unfolding firstRow
 passed true long base patch h = never 0 h
 passed false true base patch h = never 14 h

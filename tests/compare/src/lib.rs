@@ -5,12 +5,14 @@
 //! that are loaded and written again. These take the format, S-records or tapes
 //! (`format`). `answers` compares whole answers, by way of the program
 //! `vectors`, `parts` loads in parts, by way of the program `calls`, and `overlay`
-//! patches over a base image, by way of the program `patches`. `examples` holds
-//! the files of the examples folder to the second reading.
+//! patches over a base image, by way of the program `patches`. `grouping` asks of
+//! that program what must hold of merges in any grouping and order. `examples`
+//! holds the files of the examples folder to the second reading.
 
 pub mod answers;
 pub mod examples;
 pub mod format;
+pub mod grouping;
 pub mod loads;
 pub mod overlay;
 pub mod parts;

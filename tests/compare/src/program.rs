@@ -115,7 +115,8 @@ impl<C: Case> Batch<C> {
     }
 }
 
-fn compare<C: Case>(cases: &[C], printed: &[u8]) -> Result<(), String> {
+/// Holds what was printed for some cases to the answers.
+pub fn compare<C: Case>(cases: &[C], printed: &[u8]) -> Result<(), String> {
     let mut rest = printed;
     for case in cases {
         let wanted = case.answer();
@@ -145,7 +146,7 @@ impl Program {
     }
 
     /// Runs the program on an input that is no longer than its room.
-    fn run(self, script: &[u8]) -> Result<Vec<u8>, String> {
+    pub fn run(self, script: &[u8]) -> Result<Vec<u8>, String> {
         let (name, path) = (self.name, self.path());
         let failed = |error| format!("{}: {error}; `rt check {name}` builds it", path.display());
         let mut child = Command::new(&path)

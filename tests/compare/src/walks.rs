@@ -3,6 +3,8 @@
 //!
 //! Before a merge, every cell of the window is looked at.
 
+use second::overlay::Title;
+use second::patches::Held;
 use std::collections::BTreeMap;
 
 /// A look, with its part and its word.
@@ -12,11 +14,10 @@ pub struct Look {
     pub word: String,
 }
 
-/// A merge, and the base image behind it.
+/// A merge, and the base image behind it, with the header and entry of the answer.
 pub struct Merge {
     pub number: u32,
-    memory: Vec<u8>,
-    marks: Vec<u8>,
+    pub left: Held,
 }
 
 pub enum Printed {
@@ -36,12 +37,14 @@ pub fn read(printed: &[u8]) -> Option<Vec<Printed>> {
         all.push(if let Some(look) = line.strip_prefix("look ") {
             Printed::Look(read_look(look)?)
         } else {
-            let (number, _) = line.strip_prefix("merge ")?.split_once(' ')?;
-            Printed::Merge(Merge {
-                number: number.parse().ok()?,
+            let (number, rest) = line.strip_prefix("merge ")?.split_once(' ')?;
+            let left = Held {
                 memory: bytes(lines.next()?.strip_prefix("memory ")?)?,
                 marks: bytes(lines.next()?.strip_prefix("marks ")?)?,
-            })
+                title: read_title(rest)?,
+            };
+            let number = number.parse().ok()?;
+            Printed::Merge(Merge { number, left })
         });
     }
     Some(all)
@@ -60,6 +63,22 @@ fn read_look(words: &str) -> Option<Look> {
     })
 }
 
+/// What stands behind the refusal. The zeros at the header's end are not printed.
+fn read_title(words: &str) -> Option<Title> {
+    let (_, words) = words.split_once(" entry ")?;
+    let (entry, header) = words.split_once(" header ")?;
+    let entry = match entry {
+        "none" => None,
+        digits => Some(u32::from_str_radix(digits, 16).ok()?),
+    };
+    let (length, digits) = header.split_once(':')?;
+    let mut header = bytes(digits)?;
+    let length = length.parse().ok()?;
+    let fits = header.len() <= length;
+    header.resize(length, 0);
+    fits.then_some(Title { header, entry })
+}
+
 fn bytes(digits: &str) -> Option<Vec<u8>> {
     let pairs = (0..digits.len()).step_by(2);
     let byte = |at| u8::from_str_radix(digits.get(at..at + 2)?, 16).ok();
@@ -74,12 +93,12 @@ pub fn hold(start: u32, printed: &[u8]) -> Result<(), String> {
             Printed::Look(look) => drop(looks.insert(look.address, look)),
             Printed::Merge(merge) if merge.number == 0 => {
                 let start = u64::from(start);
-                let end = start + merge.memory.len() as u64;
+                let end = start + merge.left.memory.len() as u64;
                 for address in start..end {
                     is_longest(&looks, address, end)
                         .map_err(|error| format!("the look at {address:08X} {error}"))?;
                 }
-                walk(&looks, start, &merge)?;
+                walk(&looks, start, &merge.left)?;
             }
             Printed::Merge(_) => {}
         }
@@ -117,8 +136,8 @@ fn is_longest(looks: &Looks, address: u64, end: u64) -> Result<(), String> {
 
 /// From the start of the window on, behind each part, or at the next cell where it
 /// is empty: these are the cells of the merged image, with their bytes.
-fn walk(looks: &Looks, start: u64, merge: &Merge) -> Result<(), String> {
-    let length = merge.memory.len();
+fn walk(looks: &Looks, start: u64, left: &Held) -> Result<(), String> {
+    let length = left.memory.len();
     let mut shown: Vec<Option<u8>> = Vec::new();
     while shown.len() < length {
         let address = start + shown.len() as u64;
@@ -128,8 +147,7 @@ fn walk(looks: &Looks, start: u64, merge: &Merge) -> Result<(), String> {
             _ => shown.extend(part.iter().map(|&byte| Some(byte))),
         }
     }
-    let cells = merge.memory.iter().zip(&merge.marks);
-    let cells: Vec<Option<u8>> = cells.map(|(&b, &m)| (m == 1).then_some(b)).collect();
+    let cells = left.image().cells();
     if shown != cells {
         return Err(format!(
             "the looks show {shown:02X?}, and the merge leaves {cells:02X?}"

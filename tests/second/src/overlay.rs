@@ -12,6 +12,14 @@ pub struct Image<'a> {
     pub marks: &'a [u8],
 }
 
+impl Image<'_> {
+    /// The byte of each marked cell. What unmarked memory holds is not part of it.
+    pub fn cells(&self) -> Vec<Option<u8>> {
+        let cells = self.memory.iter().zip(self.marks);
+        cells.map(|(&b, &m)| (m == 1).then_some(b)).collect()
+    }
+}
+
 /// What an image has besides its cells.
 #[derive(Clone, Debug, Default, PartialEq, Eq)]
 pub struct Title {

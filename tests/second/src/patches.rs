@@ -156,7 +156,7 @@ fn parse_case(script: &str) -> Option<Case> {
 }
 
 /// An image with its own buffers; a case begins with empty ones.
-#[derive(Clone, Debug, Default)]
+#[derive(Clone, Debug, Default, PartialEq, Eq)]
 pub struct Held {
     pub memory: Vec<u8>,
     pub marks: Vec<u8>,

@@ -1,6 +1,7 @@
 //! Base images and patches, looked at cell by cell and merged, in the form of the
 //! program `patches`.
 
+mod groups;
 mod ways;
 
 use super::{contents, window_at, TOP};
@@ -8,6 +9,7 @@ use crate::overlay::Title;
 use crate::patches::{Case, Command, Held, Side, CELLS, HEADER};
 use crate::random::Random;
 use crate::reading::HEADER_ROOM;
+pub use groups::{group, Group};
 pub use ways::{ways, WAYS};
 
 /// What a merge can answer: 0, or the row that refuses it.
@@ -172,7 +174,8 @@ fn bad_marks(random: &mut Random, marks: &mut [u8]) {
     }
 }
 
-fn settings(side: Side, image: &Held) -> [Command; 4] {
+/// The commands that give a side its image.
+pub fn settings(side: Side, image: &Held) -> [Command; 4] {
     [
         Command::Memory(side, image.memory.clone()),
         Command::Marks(side, image.marks.clone()),

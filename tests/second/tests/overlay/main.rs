@@ -1,6 +1,7 @@
 //! A patch over a base image, with the answers worked out by hand from the request.
 
 mod drawn;
+mod grouping;
 mod looks;
 mod merges;
 mod refusals;

@@ -1,0 +1,5 @@
+pub mod LayLaws
+pub mod ImageLaws
+pub mod AcceptedLaws
+pub mod Grouping
+pub mod Conflicts

@@ -1,0 +1,1 @@
+// Several patches over a base: statements alone.
