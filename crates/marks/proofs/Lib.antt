@@ -1,5 +1,4 @@
 pub mod FormLaws
-pub mod MarkSearchLaws
 pub mod GrantLaws
 pub mod FlagLaws
 pub mod LayerLaws

@@ -1,16 +1,15 @@
 // A window's marks: cleared, claimed, and walked over. A function that reads or claims them is told how many cells the window has and
 // in which form their marks are stored, and promises what it does by the flags that the marks show, one number a cell.
 ghost use mathlib.Core.Path.{_≡_};
-ghost use mathlib.Core.Bool.{true, not};
+ghost use mathlib.Core.Bool.{not};
 ghost use Prim.Native.Nat.{_+_, _≤_, _<_, min};
-ghost use lib.Dec.{eqb, ltb};
-ghost use lib.ListN.{length, getD, take, drop, replicate};
-ghost use Rattle.window.specs.Marks.{isFree, claimRow, claimed};
+ghost use lib.Dec.{eqb};
+ghost use lib.ListN.{length, getD, drop, replicate};
+ghost use Rattle.window.specs.Marks.{claimRow, claimed};
 ghost use Rattle.window.specs.Walks.{unmarked, run, runOn};
-ghost use Rattle.window.specs.Windows.{firstBadMark, row16};
 ghost use Rattle.window.specs.Images.{image, overlaid};
 ghost use Rattle.marks.specs.Forms.{flags, markBytes, stored, Tidy, badMark};
-ghost use Rattle.marks.specs.Layers.{shownOver, joined};
+ghost use Rattle.marks.specs.Layers.{joined};
 
 // How the marks of a window are stored: a byte a cell.
 pub enum Form {
@@ -23,72 +22,11 @@ pub enum Bad {
     Nothing,
 }
 
-// So many marks are looked at together.
-const BLOCK: usize = 16;
-
-// Sets every byte of a part to a value.
-fn fill(part: &mut [u8], value: u8)
-    ensures { λ _. ⌜ now (part .exit) ≡ replicate (length (now (part .entry))) value ⌝ }
-{
-    let mut i: usize = 0;
-    while i < part.len() {
-        part[i] = value;
-        i += 1;
-    }
-}
-
 // Sets all marks to zero, whatever their number and form.
 pub fn clear(marks: &mut [u8])
     ensures { λ _. ⌜ now (marks .exit) ≡ replicate (length (now (marks .entry))) 0 ⌝ }
 {
-    fill(marks, 0);
-}
-
-// The bits that any mark of a part has. It looks at each, and does not leave before the end: that is faster.
-fn any_of(part: &[u8]) -> u8
-    ensures { λ r. ⌜ (eqb r 0 ≡ isFree (now (part .entry))) × (ltb 1 r ≡ row16 (now (part .entry))) ⌝ }
-{
-    let mut any: u8 = 0;
-    let mut i: usize = 0;
-    while i < part.len() {
-        any = any | part[i];
-        i += 1;
-    }
-    any
-}
-
-// Is no mark of a part set?
-fn is_free(part: &[u8]) -> bool
-    ensures { λ r. ⌜ r ≡ isFree (now (part .entry)) ⌝ }
-{
-    any_of(part) == 0
-}
-
-// A place up to which no mark byte from `at` on is set: blocks without one are passed whole.
-fn skip_free(marks: &[u8], at: usize) -> usize
-    requires { ⌜ at ≤ length (now marks) ⌝ }
-    ensures { λ r. ⌜ (r ≤ length (now (marks .entry))) × (r + unmarked (drop r (now (marks .entry))) ≡ at + unmarked (drop at (now (marks .entry)))) ⌝ }
-{
-    let mut i = at;
-    while BLOCK <= marks.len() - i {
-        let next = i + BLOCK;
-        if !is_free(&marks[i..next]) {
-            return i;
-        }
-        i = next;
-    }
-    i
-}
-
-// The same. Short records fill a block or two, which are seen at once; on long ones the plain loop is faster.
-fn all_free(part: &[u8]) -> bool
-    ensures { λ r. ⌜ r ≡ isFree (now (part .entry)) ⌝ }
-{
-    if part.len() > 4 * BLOCK {
-        return is_free(part);
-    }
-    let rest = skip_free(part, 0);
-    is_free(&part[rest..])
+    mark_bytes::fill(marks, 0);
 }
 
 // Rows 12 and 13 for `count` cells at an address: marks the cells and answers 0, or answers the row and marks nothing.
@@ -120,28 +58,13 @@ pub fn claim(
     let to = from + count;
     match form {
         Form::Bytes => {
-            if !all_free(&marks[from..to]) {
+            if !mark_bytes::all_free(&marks[from..to]) {
                 return 13;
             }
-            fill(&mut marks[from..to], 1);
+            mark_bytes::fill(&mut marks[from..to], 1);
             return 0;
         }
     }
-}
-
-// The index of the first mark byte from `at` on that is set, or the number of marks.
-fn next_byte(marks: &[u8], at: usize) -> usize
-    requires { ⌜ at ≤ length (now marks) ⌝ }
-    ensures { λ r. ⌜ r ≡ at + unmarked (drop at (now (marks .entry))) ⌝ }
-{
-    let mut i = skip_free(marks, at);
-    while i < marks.len() {
-        if marks[i] != 0 {
-            return i;
-        }
-        i += 1;
-    }
-    i
 }
 
 // The index of the next marked cell from `at` on, or the number of cells.
@@ -150,7 +73,7 @@ pub fn next_marked(form: Form, marks: &[u8], cells: usize, at: usize) -> usize
     ensures { λ r. ⌜ r ≡ at + unmarked (drop at (flags form cells (now (marks .entry)))) ⌝ }
 {
     match form {
-        Form::Bytes => next_byte(marks, at),
+        Form::Bytes => mark_bytes::next_byte(marks, at),
     }
 }
 
@@ -161,40 +84,6 @@ pub fn smaller(a: usize, b: usize) -> usize
     if a < b { a } else { b }
 }
 
-// Is a part a block whose marks have a bit in common? Then each is set. A no says nothing.
-fn is_full(part: &[u8]) -> bool
-    ensures { λ r. ⌜ (r ≡ true → run (now (part .entry)) ≡ length (now (part .entry))) ⌝ }
-{
-    if part.len() != BLOCK {
-        return false;
-    }
-    let mut all: u8 = 255;
-    let mut i: usize = 0;
-    while i < BLOCK {
-        all = all & part[i];
-        i += 1;
-    }
-    all != 0
-}
-
-// The index of the first mark byte from `at` on, below `to`, that is not set; `to` where there is none.
-fn end_byte(marks: &[u8], at: usize, to: usize) -> usize
-    requires { ⌜ (at ≤ to) × (to ≤ length (now marks)) ⌝ }
-    ensures { λ r. ⌜ r ≡ at + run (drop at (take to (now (marks .entry)))) ⌝ }
-{
-    if is_full(&marks[at..to]) {
-        return to;
-    }
-    let mut i = at;
-    while i < to {
-        if marks[i] == 0 {
-            return i;
-        }
-        i += 1;
-    }
-    to
-}
-
 // The index behind the marked cells that stand from `at` on, at most `most` of them.
 pub fn run_end(form: Form, marks: &[u8], cells: usize, at: usize, most: usize) -> usize
     requires { ⌜ (at ≤ cells) × (length (now marks) ≡ markBytes form cells) ⌝ }
@@ -202,29 +91,8 @@ pub fn run_end(form: Form, marks: &[u8], cells: usize, at: usize, most: usize) -
 {
     let to = at + smaller(most, cells - at);
     match form {
-        Form::Bytes => end_byte(marks, at, to),
+        Form::Bytes => mark_bytes::end_byte(marks, at, to),
     }
-}
-
-// The index of the first mark byte that is neither 0 nor 1, or the number of marks.
-fn bad_byte(marks: &[u8]) -> usize
-    ensures { λ r. ⌜ r ≡ firstBadMark (now (marks .entry)) ⌝ }
-{
-    let mut i = 0;
-    while i < marks.len() {
-        if 1 < marks[i] {
-            return i;
-        }
-        i += 1;
-    }
-    i
-}
-
-// Is a mark byte neither 0 nor 1?
-fn has_bad(marks: &[u8]) -> bool
-    ensures { λ r. ⌜ r ≡ row16 (now (marks .entry)) ⌝ }
-{
-    1 < any_of(marks)
 }
 
 // Row 16, with its place.
@@ -234,10 +102,10 @@ pub fn first_bad(form: Form, marks: &[u8], cells: usize) -> Bad
 {
     match form {
         Form::Bytes => {
-            if !has_bad(marks) {
+            if !mark_bytes::has_bad(marks) {
                 return Bad::Nothing;
             }
-            let place = bad_byte(marks);
+            let place = mark_bytes::bad_byte(marks);
             return Bad::At(place);
         }
     }
@@ -251,32 +119,13 @@ pub fn is_marked(form: Form, marks: &[u8], cells: usize, at: usize) -> bool
     run_end(form, marks, cells, at, 1) > at
 }
 
-// Of the bytes of a cell and of the one that lies over it, that which shows.
-fn upper(mark: u8, under: u8, over: u8) -> u8
-    ensures { λ r. ⌜ r ≡ shownOver mark under over ⌝ }
-{
-    if mark == 0 { under } else { over }
-}
-
-// Lays the bytes of marked cells over memory; all others stay. It stores each byte anew, with no branch: that is faster.
-fn lay_bytes(memory: &mut [u8], bytes: &[u8], marks: &[u8])
-    requires { ⌜ (length (now bytes) ≡ length (now memory)) × (length (now marks) ≡ length (now memory)) ⌝ }
-    ensures { λ _. ⌜ now (memory .exit) ≡ overlaid (now (memory .entry)) (image (now (bytes .entry)) (now (marks .entry))) ⌝ }
-{
-    let mut i: usize = 0;
-    while i < memory.len() {
-        memory[i] = upper(marks[i], memory[i], bytes[i]);
-        i += 1;
-    }
-}
-
 // Lays the marked cells of an image over a memory of as many cells; all other bytes stay.
 pub fn lay(memory: &mut [u8], bytes: &[u8], form: Form, marks: &[u8])
     requires { ⌜ (length (now bytes) ≡ length (now memory)) × (length (now marks) ≡ markBytes form (length (now memory))) ⌝ }
     ensures { λ _. ⌜ now (memory .exit) ≡ overlaid (now (memory .entry)) (image (now (bytes .entry)) (flags form (length (now (memory .entry))) (now (marks .entry)))) ⌝ }
 {
     match form {
-        Form::Bytes => lay_bytes(memory, bytes, marks),
+        Form::Bytes => mark_bytes::lay_bytes(memory, bytes, marks),
     }
 }
 

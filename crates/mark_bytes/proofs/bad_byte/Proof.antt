@@ -5,9 +5,9 @@ use native.Mathlib.Omega.{arith}
 use lib.ListN.{length, drop}
 use Rattle.window.specs.Windows.{firstBadMark}
 use Rattle.lists.proofs.SearchLaws.{at-end, at-stop, at-step}
-use Rattle.marks.proofs.MarkSearchLaws.{bad-stop, bad-step}
-use Rattle.marks.proofs.bad_byte.Statement.{statement}
-use Rattle.marks.proofs.bad_byte.Tie as tie
+use Rattle.mark_bytes.proofs.MarkSearchLaws.{bad-stop, bad-step}
+use Rattle.mark_bytes.proofs.bad_byte.Statement.{statement}
+use Rattle.mark_bytes.proofs.bad_byte.Tie as tie
 
 abbrev Inv-loop : tie.InvT-loop
 Inv-loop marks i₀ i = (i ≤ length marks) × (i + firstBadMark (drop i marks) ≡ firstBadMark marks)

@@ -6,10 +6,10 @@ use lib.ListN.{getD, take, drop}
 use lib.Seq.{length-take-le, getD-take}
 use Rattle.window.specs.Walks.{run}
 use Rattle.lists.proofs.SearchLaws.{at-end, at-stop, at-step}
-use Rattle.marks.proofs.MarkSearchLaws.{run-stop, run-step, full-end}
+use Rattle.mark_bytes.proofs.MarkSearchLaws.{run-stop, run-step, full-end}
 use borrow.Author.Needs.{needs}
-use Rattle.marks.proofs.end_byte.Statement.{statement}
-use Rattle.marks.proofs.end_byte.Tie as tie
+use Rattle.mark_bytes.proofs.end_byte.Statement.{statement}
+use Rattle.mark_bytes.proofs.end_byte.Tie as tie
 
 abbrev Inv-loop : tie.InvT-loop
 Inv-loop marks at to i₀ i = (i ≤ to) × (i + run (drop i (take to marks)) ≡ at + run (drop at (take to marks)))

@@ -3,10 +3,10 @@ use mathlib.Core.Path.{ap, _∙_}
 use native.Mathlib.Omega.{arith}
 use Rattle.lists.proofs.PartLaws.{rest}
 use Rattle.window.specs.Marks.{isFree}
-use Rattle.marks.proofs.MarkSearchLaws.{free-behind}
+use Rattle.mark_bytes.proofs.MarkSearchLaws.{free-behind}
 use borrow.Author.Needs.{needs}
-use Rattle.marks.proofs.all_free.Statement.{statement}
-use Rattle.marks.proofs.all_free.Tie as tie
+use Rattle.mark_bytes.proofs.all_free.Statement.{statement}
+use Rattle.mark_bytes.proofs.all_free.Tie as tie
 
 returns-2 : tie.Need-returns-2
 returns-2 c =

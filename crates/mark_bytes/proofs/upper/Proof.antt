@@ -1,9 +1,9 @@
 -- `upper` meets its contract: its test is the definition's.
 use mathlib.Core.Path.{sym}
-use Rattle.marks.proofs.LayerLaws.{shown-marked}
+use Rattle.mark_bytes.proofs.ShownLaws.{shown-marked}
 use borrow.Author.Needs.{needs}
-use Rattle.marks.proofs.upper.Statement.{statement}
-use Rattle.marks.proofs.upper.Tie as tie
+use Rattle.mark_bytes.proofs.upper.Statement.{statement}
+use Rattle.mark_bytes.proofs.upper.Tie as tie
 
 returns-2 : tie.Need-returns-2
 returns-2 c = sym (shown-marked _ _ _ (c .if1 .left))

@@ -5,10 +5,10 @@ use native.Mathlib.Omega.{arith}
 use lib.ListN.{length, drop}
 use Rattle.window.specs.Walks.{unmarked}
 use Rattle.lists.proofs.SearchLaws.{at-end, at-stop, at-step}
-use Rattle.marks.proofs.MarkSearchLaws.{unmarked-stop, unmarked-step}
+use Rattle.mark_bytes.proofs.MarkSearchLaws.{unmarked-stop, unmarked-step}
 use borrow.Author.Needs.{needs}
-use Rattle.marks.proofs.next_byte.Statement.{statement}
-use Rattle.marks.proofs.next_byte.Tie as tie
+use Rattle.mark_bytes.proofs.next_byte.Statement.{statement}
+use Rattle.mark_bytes.proofs.next_byte.Tie as tie
 
 abbrev Inv-loop : tie.InvT-loop
 Inv-loop marks at i₀ i = (i ≤ length marks) × (i + unmarked (drop i marks) ≡ at + unmarked (drop at marks))

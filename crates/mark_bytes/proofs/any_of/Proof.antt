@@ -8,10 +8,10 @@ use lib.ListN.{length, drop}
 use Rattle.window.specs.Marks.{isFree}
 use Rattle.window.specs.Windows.{row16}
 use Rattle.window.proofs.MarkLaws.{free-turn, free-end}
-use Rattle.marks.proofs.FlagLaws.{bad-turn, bad-end}
+use Rattle.mark_bytes.proofs.BadLaws.{bad-turn, bad-end}
 use borrow.Author.Needs.{needs}
-use Rattle.marks.proofs.any_of.Statement.{statement}
-use Rattle.marks.proofs.any_of.Tie as tie
+use Rattle.mark_bytes.proofs.any_of.Statement.{statement}
+use Rattle.mark_bytes.proofs.any_of.Tie as tie
 
 abbrev Inv-loop : tie.InvT-loop
 Inv-loop part any₀ i₀ any i =

@@ -8,10 +8,10 @@ use borrow.Author.Tests.{not-false}
 use lib.ListN.{length, take, drop}
 use Rattle.window.specs.Marks.{isFree}
 use Rattle.window.specs.Walks.{unmarked}
-use Rattle.marks.proofs.MarkSearchLaws.{free-block}
+use Rattle.mark_bytes.proofs.MarkSearchLaws.{free-block}
 use borrow.Author.Needs.{needs}
-use Rattle.marks.proofs.skip_free.Statement.{statement}
-use Rattle.marks.proofs.skip_free.Tie as tie
+use Rattle.mark_bytes.proofs.skip_free.Statement.{statement}
+use Rattle.mark_bytes.proofs.skip_free.Tie as tie
 
 abbrev Inv-loop : tie.InvT-loop
 Inv-loop marks at i₀ i = (i ≤ length marks) × (i + unmarked (drop i marks) ≡ at + unmarked (drop at marks))

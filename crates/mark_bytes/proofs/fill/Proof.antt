@@ -7,8 +7,8 @@ use borrow.Author.Fill.{fill-more}
 use lib.ListN.{length, drop, replicate, length-set}
 use lib.Seq.{drop-length}
 use borrow.Author.Needs.{needs}
-use Rattle.marks.proofs.fill.Statement.{statement}
-use Rattle.marks.proofs.fill.Tie as tie
+use Rattle.mark_bytes.proofs.fill.Statement.{statement}
+use Rattle.mark_bytes.proofs.fill.Tie as tie
 
 abbrev Inv-loop : tie.InvT-loop
 Inv-loop part₀ value i₀ part i = (i ≤ length part₀) × (length part ≡ length part₀) × (part ≡ replicate i value ++ drop i part₀)

@@ -7,11 +7,11 @@ use lib.ListN.{length, getD, length-set}
 use Rattle.lists.proofs.RenewLaws.{renewed, still-old, renew-turn, renew-end}
 use Rattle.window.specs.Images.{image, overlaid}
 use Rattle.window.proofs.ViewLaws.{length-overlaid}
-use Rattle.marks.specs.Layers.{shownOver}
-use Rattle.marks.proofs.LayerLaws.{laid-at}
+use Rattle.mark_bytes.specs.Shown.{shownOver}
+use Rattle.mark_bytes.proofs.ShownLaws.{laid-at}
 use borrow.Author.Needs.{needs}
-use Rattle.marks.proofs.lay_bytes.Statement.{statement}
-use Rattle.marks.proofs.lay_bytes.Tie as tie
+use Rattle.mark_bytes.proofs.lay_bytes.Statement.{statement}
+use Rattle.mark_bytes.proofs.lay_bytes.Tie as tie
 
 -- what memory comes to
 abbrev whole : List ℕ → List ℕ → List ℕ → List ℕ

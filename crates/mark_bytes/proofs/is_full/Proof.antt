@@ -6,10 +6,10 @@ use lib.ListN.{length, drop}
 use borrow.Author.Tests.{eqb-false, not-true}
 use Rattle.lists.proofs.SearchLaws.{at-end}
 use Rattle.window.specs.Walks.{run}
-use Rattle.marks.proofs.MarkSearchLaws.{full-step}
+use Rattle.mark_bytes.proofs.MarkSearchLaws.{full-step}
 use borrow.Author.Needs.{needs}
-use Rattle.marks.proofs.is_full.Statement.{statement}
-use Rattle.marks.proofs.is_full.Tie as tie
+use Rattle.mark_bytes.proofs.is_full.Statement.{statement}
+use Rattle.mark_bytes.proofs.is_full.Tie as tie
 
 abbrev Inv-loop : tie.InvT-loop
 Inv-loop part all₀ i₀ all i = (i ≤ 16) × ((all ≡ 0 → ⊥) → i + run (drop i part) ≡ run part)

@@ -1,0 +1,3 @@
+pub mod MarkSearchLaws
+pub mod BadLaws
+pub mod ShownLaws
