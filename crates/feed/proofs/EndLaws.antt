@@ -18,7 +18,7 @@ use Rattle.intake.specs.declared.Tally.{Tally}
 use Rattle.intake.specs.Tallies.{knownOf}
 use Rattle.session.specs.declared.Session.{Session}
 use Rattle.session.specs.Sessions.{goingOf, statusOf}
-use Rattle.feed.proofs.AllowedLaws.{held-short, Allowed, same-length}
+use Rattle.take_part.proofs.AllowedLaws.{held-short, Allowed, same-length}
 
 module _ (s : Session) (base : ℕ) (memory marks : List ℕ) where
   -- an earlier refusal stays

@@ -1,4 +1,2 @@
-pub mod SettleLaws
-pub mod AllowedLaws
 pub mod CallLaws
 pub mod EndLaws

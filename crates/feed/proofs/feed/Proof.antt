@@ -9,7 +9,8 @@ use Rattle.parts.specs.Parts.{stage, fed, row1Later, row20, feedIn}
 use Rattle.parts.specs.Parts.Status.{going, halted}
 use Rattle.session.specs.Sessions.{goingOf, statusOf}
 use Rattle.part_lines.proofs.FreeLaws.{all-free}
-use Rattle.feed.proofs.CallLaws.{shows, feed-refused, feed-barred, few-so-far, past, not-past, feed-past, feed-read, Reading, total-few, read-kept}
+use Rattle.take_part.proofs.ReadLaws.{shows, Reading, total-few, read-kept}
+use Rattle.feed.proofs.CallLaws.{feed-refused, feed-barred, few-so-far, past, not-past, feed-past, feed-read}
 use borrow.Author.Needs.{needs}
 use Rattle.feed.proofs.feed.Statement.{statement}
 use Rattle.feed.proofs.feed.Tie as tie

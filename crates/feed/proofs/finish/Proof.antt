@@ -16,8 +16,8 @@ use Rattle.intake.specs.Tallies.{knownOf}
 use Rattle.session.specs.Sessions.{goingOf}
 use Rattle.session.proofs.SessionLaws.{shows-going}
 use Rattle.part_lines.proofs.TurnLaws.{took-refused, took-next}
-use Rattle.feed.proofs.CallLaws.{shows}
-use Rattle.feed.proofs.AllowedLaws.{Allowed, same-length, few-now}
+use Rattle.take_part.proofs.ReadLaws.{shows}
+use Rattle.take_part.proofs.AllowedLaws.{Allowed, same-length, few-now}
 use Rattle.feed.proofs.EndLaws.{end-refused, end-barred, last-halts, last-reason, last-open, last-ended}
 use borrow.Author.Needs.{needs}
 use Rattle.feed.proofs.finish.Statement.{statement}

@@ -2,11 +2,11 @@
 use mathlib.Core.Path.{_≡_, sym, _∙_}
 use native.Mathlib.Omega.{arith}
 use lib.ListN.{length}
-use Rattle.feed.proofs.AllowedLaws.{same-length as lent-alike}
-use Rattle.feed.proofs.CallLaws.{Reading, total-few, few-all, all-goes, settled}
+use Rattle.take_part.proofs.AllowedLaws.{same-length as lent-alike}
+use Rattle.take_part.proofs.ReadLaws.{Reading, total-few, few-all, all-goes, settled}
 use borrow.Author.Needs.{needs}
-use Rattle.feed.proofs.take_fresh.Statement.{statement}
-use Rattle.feed.proofs.take_fresh.Tie as tie
+use Rattle.take_part.proofs.take_fresh.Statement.{statement}
+use Rattle.take_part.proofs.take_fresh.Tie as tie
 
 -- places: the call, where the table stands, and where the lines were taken
 abbrev start : tie.After-digit-table → tie.Start

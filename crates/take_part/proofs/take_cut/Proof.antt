@@ -11,11 +11,11 @@ use Rattle.intake.specs.declared.Tally.{Tally}
 use Rattle.intake.specs.Tallies.{knownOf}
 use Rattle.session.specs.Sessions.{goingOf}
 use Rattle.part_lines.proofs.TurnLaws.{took-refused, took-next}
-use Rattle.feed.proofs.AllowedLaws.{same-length as lent-alike, few-now}
-use Rattle.feed.proofs.CallLaws.{shows, Reading, total-few, chars-free, first-halts, first-reason, next-same, next-few, first-goes, settled}
+use Rattle.take_part.proofs.AllowedLaws.{same-length as lent-alike, few-now}
+use Rattle.take_part.proofs.ReadLaws.{shows, Reading, total-few, chars-free, first-halts, first-reason, next-same, next-few, first-goes, settled}
 use borrow.Author.Needs.{needs}
-use Rattle.feed.proofs.take_cut.Statement.{statement}
-use Rattle.feed.proofs.take_cut.Tie as tie
+use Rattle.take_part.proofs.take_cut.Statement.{statement}
+use Rattle.take_part.proofs.take_cut.Tie as tie
 
 -- places: the call, where the table stands, and where the first line was closed
 abbrev start : tie.After-digit-table → tie.Start

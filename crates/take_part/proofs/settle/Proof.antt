@@ -9,10 +9,10 @@ use Rattle.text.specs.Lines.{front}
 use Rattle.srec.specs.Lines.{isEnd}
 use Rattle.parts.specs.Parts.{Going}
 use Rattle.parts.specs.Stretches.{keptAll}
-use Rattle.feed.proofs.SettleLaws.{rest-reason, rest-inside, settled-refused, settled-from}
+use Rattle.take_part.proofs.SettleLaws.{rest-reason, rest-inside, settled-refused, settled-from}
 use borrow.Author.Needs.{needs}
-use Rattle.feed.proofs.settle.Statement.{statement}
-use Rattle.feed.proofs.settle.Tie as tie
+use Rattle.take_part.proofs.settle.Statement.{statement}
+use Rattle.take_part.proofs.settle.Tie as tie
 
 -- places: the call, before the match
 abbrev call : tie.After-slice-known → tie.Start

@@ -1,0 +1,3 @@
+pub mod SettleLaws
+pub mod AllowedLaws
+pub mod ReadLaws
