@@ -52,8 +52,7 @@ fn part_at<'a>(
     patch_marks: &[u8],
     address: u32,
 ) -> &'a [u8]
-    requires { ⌜ (length (now «base_marks») ≡ markBytes form (length (now «base_memory»))) × (length (now «patch_marks») ≡ markBytes form (length (now «patch_memory»))) × (length (now «patch_memory») ≡ length (now «base_memory»)) ⌝ }
-    requires { ⌜ (names source ≡ true → (base ≤ address) × (address - base < length (now «base_memory»))) ⌝ }
+    requires { ⌜ (names source ≡ true → (length (now «base_marks») ≡ markBytes form (length (now «base_memory»))) × (length (now «patch_marks») ≡ markBytes form (length (now «patch_memory»))) × (length (now «patch_memory») ≡ length (now «base_memory»)) × (base ≤ address) × (address - base < length (now «base_memory»))) ⌝ }
     ensures part { λ r. ⌜ now r ≡ partOf source (plain form (windowOf base (now («base_memory» .entry)) (now («base_marks» .entry)))) (plain form (windowOf base (now («patch_memory» .entry)) (now («patch_marks» .entry)))) (address - base) ⌝ }
     ensures place { λ r. ⌜ ptr r ≡ placeOf source (address - base) (ptr («base_memory» .entry)) (ptr («patch_memory» .entry)) ⌝ }
 {
@@ -121,19 +120,7 @@ pub fn look<'a>(
     ensures part { λ r. ⌜ now r ≡ lookPart (windowOf base (now («base_memory» .entry)) (now («base_marks» .entry))) (windowOf base (now («patch_memory» .entry)) (now («patch_marks» .entry))) address ⌝ }
     ensures place { λ r. ⌜ ptr r ≡ lookPlace (windowOf base (now («base_memory» .entry)) (now («base_marks» .entry))) (windowOf base (now («patch_memory» .entry)) (now («patch_marks» .entry))) address (ptr («base_memory» .entry)) (ptr («patch_memory» .entry)) ⌝ }
 {
-    let refusal = overlay::first_row(
-        base,
-        base_memory,
-        base_marks,
-        patch_memory,
-        patch_marks,
-        false,
-    );
-    if refusal.reason != 0 {
-        return &base_memory[..0];
-    }
-    let source = source_at(
-        Form::Bytes,
+    let source = look_source(
         base,
         base_memory,
         base_marks,

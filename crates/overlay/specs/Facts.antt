@@ -49,13 +49,13 @@ names (Refused f) = false
 
 -- the first cell of two images comes from the image that the source names; there is no cell behind the window
 abbrev pub comesFirst : Source → Image → Image → Bool
-comesFirst w [] patch = false
-comesFirst w (b ∷ base) [] = false
-comesFirst w (b ∷ base) (p ∷ patch) = comes w b p
+comesFirst source [] patch = false
+comesFirst source (b ∷ base) [] = false
+comesFirst source (b ∷ base) (p ∷ patch) = comes source b p
 
 -- the same for the cell at an index
 abbrev pub comesAt : Source → Window → Window → ℕ → Bool
-comesAt w B P i = comesFirst w (from i B) (from i P)
+comesAt source B P i = comesFirst source (from i B) (from i P)
 
 -- the source that the marks of a cell give, the base's and the patch's: "the patch where it is marked, else the base"
 abbrev pub markSource : ℕ → ℕ → Source

@@ -21,8 +21,7 @@ abbrev pub nonEmpty : List ℕ → Bool
 nonEmpty [] = false
 nonEmpty (b ∷ bs) = true
 
--- "patch cells win", cell by cell. Row 1 makes the lengths equal; where they are not, the
--- cells that only one image has stay
+-- "patch cells win", cell by cell. Row 1 makes the lengths equal; where they are not, the cells that only one image has stay
 abbrev pub merged : Image → Image → Image
 merged [] patch = patch
 merged (b ∷ base) [] = b ∷ base

@@ -28,9 +28,9 @@ sourceOf (b ∷ base) (p ∷ patch) = cond (comes Patch b p) Patch (cond (comes 
 -- how many first cells come from the image that the source names: the length of Req 07's "longest run starting there whose cells all
 -- come from the same image"
 abbrev pub extent : Source → Image → Image → ℕ
-extent w [] patch = 0
-extent w (b ∷ base) [] = 0
-extent w (b ∷ base) (p ∷ patch) = cond (comes w b p) (suc (extent w base patch)) 0
+extent source [] patch = 0
+extent source (b ∷ base) [] = 0
+extent source (b ∷ base) (p ∷ patch) = cond (comes source b p) (suc (extent source base patch)) 0
 
 -- the image that a window shows
 abbrev pub seenIn : Window → Image
@@ -58,7 +58,7 @@ memoryOf (Refused f) B P = B .memory
 
 -- "as a part of that image's own lent memory": the run from the index i on; for "neither" and a refusal it is empty
 unfoldable pub partOf : Source → Window → Window → ℕ → List ℕ
-partOf w B P i = take (extent w (from i B) (from i P)) (drop i (memoryOf w B P))
+partOf source B P i = take (extent source (from i B) (from i P)) (drop i (memoryOf source B P))
 
 -- what a look at the address a shows
 unfoldable pub lookPart : Window → Window → ℕ → List ℕ

@@ -6,7 +6,7 @@ use native.Mathlib.Omega.{arith}
 use mathlib.Core.Bool.{true}
 use lib.ListN.{length}
 use Rattle.window.specs.Windows.{Window, windowOf}
-use Rattle.marks.specs.Forms.{plain}
+use Rattle.marks.specs.Forms.{markBytes, plain}
 use Rattle.overlay.specs.declared.Source.{Source}
 use Rattle.overlay.specs.declared.Source.the-variants.{Patch, Base, Neither, Refused}
 use Rattle.overlay.specs.Facts.{names}
@@ -28,36 +28,43 @@ module _ (c : tie.After-shared-slice-known4) where
   abbrev patch : Window
   patch = plain (start .args .form) (windowOf (start .args .base) (start .args .patch-memory .now) (start .args .patch-marks .now))
 
-  like : Alike base patch
-  like =
+  -- where the source names an image the windows have one length, and the address lies in them
+  pub record Here : Type 0 where
+    pub like : Alike base patch
+    pub base-marks : length (start .args .base-marks .now) ≡ markBytes (start .args .form) (length (start .args .base-memory .now))
+    pub patch-marks : length (start .args .patch-marks .now) ≡ markBytes (start .args .form) (length (start .args .patch-memory .now))
+    pub low : start .args .base ≤ start .args .address
+    pub high : start .args .address - start .args .base < length (start .args .base-memory .now)
+
+  here : (w : Source) → start .args .source ≡ w → names w ≡ true → Here
+  here w e h =
       let a = start .args in
-      plain-alike (a .form) (a .base) (a .base-memory .now) (a .base-marks .now) (a .patch-memory .now) (a .patch-marks .now)
-      (start .pre .0 .0) (start .pre .0 .1) (start .pre .0 .2)
+      let p = start .pre (rw e h) in
+      record {
+        like = plain-alike (a .form) (a .base) (a .base-memory .now) (a .base-marks .now) (a .patch-memory .now) (a .patch-marks .now) (p .0) (p .1) (p .2);
+        base-marks = p .0;
+        patch-marks = p .1;
+        low = p .3;
+        high = p .4;
+      }
 
-  -- the address lies in the window where the source names an image
-  inside : (w : Source) → start .args .source ≡ w → names w ≡ true
-      → (start .args .base ≤ start .args .address) × (start .args .address - start .args .base < length (base .memory))
-  inside w e h = start .pre .1 (rw e h)
+patch-here : (c : tie.After-enum-told) → Here (c .before .before)
+patch-here c = here (c .before .before) Patch (c .enum-told .given .1) refl
 
-patch-inside : (c : tie.After-enum-told) → let s = start (c .before .before) .args in (s .base ≤ s .address) × (s .address - s .base < length (s .base-memory .now))
-patch-inside c = inside (c .before .before) Patch (c .enum-told .given .1) refl
-
-base-inside : (c : tie.After-enum-told2) → let s = start (c .before .before) .args in (s .base ≤ s .address) × (s .address - s .base < length (s .base-memory .now))
-base-inside c = inside (c .before .before) Base (c .enum-told2 .given .1) refl
+base-here : (c : tie.After-enum-told2) → Here (c .before .before)
+base-here c = here (c .before .before) Base (c .enum-told2 .given .1) refl
 
 sub-from : tie.Need-sub-from
-sub-from c = patch-inside c .0
+sub-from c = patch-here c .low
 
 run-end-requires : tie.Need-run-end-requires
-run-end-requires c κs =
-    let s = start (c .before .before) in
-    (omega (arith, patch-inside c .1, s .pre .0 .2), s .pre .0 .1)
+run-end-requires c κs = let h = patch-here c in (omega (arith, h .high, h .like .both), h .patch-marks)
 
 part-result-end : tie.Need-part-result-end
 part-result-end c =
     let t = c .before in
     let j = t .before .before in
-    patch-within (base j) (patch j) (like j) _ (omega (arith, patch-inside t .1)) (c .run-end .result) (c .run-end .ensures)
+    patch-within (base j) (patch j) (patch-here t .like) _ (omega (arith, patch-here t .high)) (c .run-end .result) (c .run-end .ensures)
 
 returns : tie.Need-returns
 returns c =
@@ -66,29 +73,27 @@ returns c =
     let j = t .before .before in
     let a = start j .args in
     let e = t .enum-told .given .1 in (
-      rw e (patch-part (base j) (patch j) (like j) (a .address - a .base) (omega (arith, patch-inside t .1)) (k .run-end .result) (k .run-end .ensures)),
+      rw e (patch-part (base j) (patch j) (patch-here t .like) (a .address - a .base) (omega (arith, patch-here t .high)) (k .run-end .result) (k .run-end .ensures)),
       rw (e, add-comm (a .address - a .base)),
     )
 
 sub-from-2 : tie.Need-sub-from-2
-sub-from-2 c = base-inside c .0
+sub-from-2 c = base-here c .low
 
 next-marked-requires : tie.Need-next-marked-requires
-next-marked-requires c κs =
-    let s = start (c .before .before) in
-    (omega (arith, base-inside c .1, s .pre .0 .2), s .pre .0 .1)
+next-marked-requires c κs = let h = base-here c in (omega (arith, h .high, h .like .both), h .patch-marks)
 
 run-end-requires-2 : tie.Need-run-end-requires-2
 run-end-requires-2 c κs =
-    let t = c .before in
-    (omega (arith, base-inside t .1), start (t .before .before) .pre .0 .0)
+    let h = base-here (c .before) in
+    (omega (arith, h .high), h .base-marks)
 
 part-result-end-2 : tie.Need-part-result-end-2
 part-result-end-2 c =
     let n = c .before in
     let t = n .before in
     let j = t .before .before in
-    base-within (base j) (patch j) (like j) _ (omega (arith, base-inside t .1)) (n .next-marked .result) (n .next-marked .ensures)
+    base-within (base j) (patch j) (base-here t .like) _ (omega (arith, base-here t .high)) (n .next-marked .result) (n .next-marked .ensures)
     (c .run-end2 .result) (c .run-end2 .ensures)
 
 returns-2 : tie.Need-returns-2
@@ -99,7 +104,7 @@ returns-2 c =
     let j = t .before .before in
     let a = start j .args in
     let e = t .enum-told2 .given .1 in (
-      rw e (base-part (base j) (patch j) (like j) (a .address - a .base) (omega (arith, base-inside t .1)) (n .next-marked .result)
+      rw e (base-part (base j) (patch j) (base-here t .like) (a .address - a .base) (omega (arith, base-here t .high)) (n .next-marked .result)
           (n .next-marked .ensures) (k .run-end2 .result) (k .run-end2 .ensures)),
       rw (e, add-comm (a .address - a .base)),
     )
