@@ -21,7 +21,7 @@ module _ (B P : Window) (f : Refusal) (e : f ≡ firstRow (row1Both B P) false (
   is-refusal = e
 
   -- one applies
-  pub not-passed : (f .reason ≡ 0 → ⊥) → passes (lookRefusal B P) ≡ false
+  not-passed : (f .reason ≡ 0 → ⊥) → passes (lookRefusal B P) ≡ false
   not-passed h = rw is-refusal at (ne-eqb (f .reason) 0 h)
 
   -- none does

@@ -7,8 +7,8 @@ use mathlib.Core.Bool.{Bool, true, false, not, _||_}
 use lib.Dec.{eqb}
 use mathlib.Core.List.{List, [], _∷_}
 use mathlib.Core.Option.{none}
-use mathlib.Core.Logic.{⊎-elim, _⊎_, inl, inr}
-use lib.ListN.{length, replicate, length-append, length-replicate}
+use mathlib.Core.Logic.{⊎-elim, _⊎_}
+use lib.ListN.{length, replicate, length-replicate}
 use Rattle.lists.proofs.TestLaws.{by-test}
 use Rattle.window.specs.declared.Refusal.{Refusal}
 use Rattle.window.specs.Windows.{Window, windowOf, row1}
@@ -30,83 +30,10 @@ use Rattle.parts.specs.Parts.{Going, Status, Stage, stage, closed, fed, 
 use Rattle.parts.specs.Parts.Status.{going, halted}
 use Rattle.parts.specs.Agreement.Cut.{at-record, at-end, at-begin}
 use Rattle.parts.specs.Agreement.{feeds, joined, Ending, seen, inParts, storedBefore, memoryKept, laid, Keeps, Agrees, However-cut, Short-agrees, Parts-at-once, AsLent, Given-out, Given-out-goes-on, Refusals-stay}
-use Rattle.parts.proofs.SoundLaws.{Sound, SoundIn, SoundAt, fed-sound, end-sound, sound-possible, sound-allowed, allowed-sound, roomy, feed-is-fed, fed-append}
+use Rattle.parts.proofs.SoundLaws.{Sound, SoundIn, SoundAt, fed-sound, end-sound, sound-possible, sound-allowed, allowed-sound, roomy, fed-append}
 use Rattle.parts.proofs.PartWalkLaws.{finishedAt, ending, walk}
 use Rattle.parts.proofs.KeptLaws.{Named, scan-kept}
-
--- ---- the calls on sound stages
-
--- further parts change nothing after a refusal
-feeds-halted : (base : ℕ) (f : Refusal) (memory marks : List ℕ) (ps : List (List ℕ))
-    → feeds base (stage (halted f) memory marks) ps ≡ stage (halted f) memory marks
-feeds-halted base f memory marks [] = refl
-feeds-halted base f memory marks (p ∷ ps) = feeds-halted base f memory marks ps
-
--- parts with room for all of them are their characters one after the other
-feeds-are-fed : (base : ℕ) (ps : List (List ℕ)) (w : Stage) → SoundAt base (length (joined ps)) w → feeds base w ps ≡ fed base w (joined ps)
-feeds-are-fed base [] w s = refl
-feeds-are-fed base (p ∷ ps) w s =
-    let t : SoundAt base (length p + length (joined ps)) w = rw (length-append p (joined ps)) at s in
-    ap (λ (x : Stage). feeds base x ps) (feed-is-fed base p (length (joined ps)) w t)
-    ∙ feeds-are-fed base ps (fed base w p) (fed-sound base p (length (joined ps)) w t) ∙ sym (fed-append base p (joined ps) w)
-
--- the end of a sound stage
-end-finishes : (base : ℕ) (w : Stage) → SoundAt base 0 w → seen (end base w) ≡ finishedAt base w
-end-finishes base w s = go (w .status) (w .memory) (w .marks) s
-  where
-    go : (x : Status) (memory marks : List ℕ) → SoundIn base 0 x memory marks
-        → seen (end base (stage x memory marks)) ≡ finishedAt base (stage x memory marks)
-    go (halted f) memory marks s = refl
-    go (going g) memory marks s = rw (sound-allowed base 0 g memory marks s)
-
--- ---- where 20 may be given
-
--- a load that row 20 refused
-record By-20 (w : Stage) : Type 0 where
-  why : Refusal
-  memory : List ℕ
-  marks : List ℕ
-  halts : w ≡ stage (halted why) memory marks
-  reason : why .reason ≡ 20
-
--- parts are their characters one after the other, or row 20 refuses one of them
-record Arrived (base : ℕ) (ps : List (List ℕ)) (w : Stage) : Type 0 where
-  at-once : feeds base w ps ≡ fed base w (joined ps)
-  sound : SoundAt base 0 (feeds base w ps)
-
--- a part that is taken, with what the others come to behind it
-part-arrives : (base : ℕ) (p : List ℕ) (ps : List (List ℕ)) (w : Stage) → SoundAt base (length p + 0) w
-    → Arrived base ps (fed base w p) ⊎ By-20 (feeds base (fed base w p) ps) → Arrived base (p ∷ ps) w ⊎ By-20 (feeds base w (p ∷ ps))
-part-arrives base p ps w t =
-    let q : feed base w p ≡ fed base w p = feed-is-fed base p 0 w t in
-    ⊎-elim {C = Arrived base (p ∷ ps) w ⊎ By-20 (feeds base w (p ∷ ps))}
-    (λ a. inl (record {
-      at-once = ap (λ (y : Stage). feeds base y ps) q ∙ a .at-once ∙ sym (fed-append base p (joined ps) w);
-      sound = subst (λ (y : Stage). SoundAt base 0 (feeds base y ps)) (sym q) (a .sound);
-    }))
-    (λ b. inr (subst (λ (y : Stage). By-20 (feeds base y ps)) (sym q) b))
-
--- parts arrive, or row 20 refuses one of them
-feeds-arrive : (base : ℕ) (ps : List (List ℕ)) (w : Stage) → SoundAt base 0 w → Arrived base ps w ⊎ By-20 (feeds base w ps)
-feeds-arrive base [] w s = inl (record { at-once = refl; sound = s })
-feeds-arrive base (p ∷ ps) w s = go (w .status) (w .memory) (w .marks) s (λ x t. feeds-arrive base ps (fed base x p) (fed-sound base p 0 x t))
-  where
-    go : (x : Status) (memory marks : List ℕ) → SoundIn base 0 x memory marks
-        → ((y : Stage) → SoundAt base (length p + 0) y → Arrived base ps (fed base y p) ⊎ By-20 (feeds base (fed base y p) ps))
-        → Arrived base (p ∷ ps) (stage x memory marks) ⊎ By-20 (feeds base (stage x memory marks) (p ∷ ps))
-    go (halted f) memory marks s others = let w : Stage = stage (halted f) memory marks in part-arrives base p ps w tt (others w tt)
-    go (going g) memory marks s others =
-        by-test (row20 g p)
-        (λ e. inr (record {
-          why = refusal 20 (g .known .state .number) (g .total);
-          memory = memory;
-          marks = replicate (length marks) 0;
-          halts = rw (sound-allowed base 0 g memory marks s, e)
-              (feeds-halted base (refusal 20 (g .known .state .number) (g .total)) memory (replicate (length marks) 0) ps);
-          reason = refl;
-        }))
-        (λ e. let w : Stage = stage (going g) memory marks in
-        let t : Sound base g memory marks (length p + 0) = roomy base g memory marks p s e in part-arrives base p ps w t (others w t))
+use Rattle.parts.proofs.ArrivalLaws.{feeds-halted, feeds-are-fed, end-finishes, By-20, Arrived, feeds-arrive}
 
 -- ---- the load
 

@@ -3,4 +3,5 @@ pub mod SoundLaws
 pub mod PartWalkLaws
 pub mod StretchLaws
 pub mod KeptLaws
+pub mod ArrivalLaws
 pub mod Agreement
