@@ -1,8 +1,11 @@
-/* compare [--quick] [--lines] [ROUNDS]: the library and its twins on the same texts, in turn, in one process.
+/* compare [--packed] [--quick] [--lines] [ROUNDS]: the library and its twins on the same texts, in turn, in one
+ * process.
  *
  * Prints Markdown tables. A time is the minimum over ROUNDS rounds. A round goes through all texts, and on each text
  * through all programs, so that a disturbance of some seconds hits all of them, and one round alone. Before they are
  * timed all programs must give equal results, else the exit status is 1. --quick leaves out texts above 1 MiB.
+ *
+ * --packed is for the section on packed marks alone. It takes no --lines.
  *
  * --lines is for run.sh --places: the library and `tuned` alone, and for each text that is loaded and written one line
  * of three fields with tabs between them, the text and the seconds of the two.
@@ -278,21 +281,8 @@ static int take(char ***words, const char *word)
     return 1;
 }
 
-int main(int argc, char **argv)
+static void run_all(int quick, long rounds)
 {
-    char **words = argv + (argc > 0);
-    int quick = take(&words, "--quick"), lines = take(&words, "--lines");
-    char *end = "";
-    long rounds = *words ? strtol(*words++, &end, 10) : ROUNDS;
-
-    if (*words || *end != '\0' || rounds < 1 || rounds > MOST_ROUNDS) {
-        fputs("usage: compare [--quick] [--lines] [ROUNDS]\n", stderr);
-        return TROUBLE;
-    }
-    if (lines) {
-        print_lines(quick, rounds);
-        return 0;
-    }
     printf("Minimum of %ld rounds, of %ld below %d MiB and for refusals, small loads, tapes, parts and overlays.\n\n", rounds,
            MORE * rounds, SMALL);
     compare(quick, rounds);
@@ -302,5 +292,32 @@ int main(int argc, char **argv)
     tapes(rounds);
     parts(quick, rounds);
     overlays(quick, rounds);
+    packed_marks(quick, rounds);
+}
+
+static void run_packed(int quick, long rounds)
+{
+    printf("Minimum of %ld rounds, of %ld below %d MiB.\n", rounds, MORE * rounds, SMALL);
+    packed_marks(quick, rounds);
+}
+
+int main(int argc, char **argv)
+{
+    char **words = argv + (argc > 0);
+    int packed = take(&words, "--packed"), quick = take(&words, "--quick");
+    int lines = !packed && take(&words, "--lines");
+    char *end = "";
+    long rounds = *words ? strtol(*words++, &end, 10) : ROUNDS;
+
+    if (*words || *end != '\0' || rounds < 1 || rounds > MOST_ROUNDS) {
+        fputs("usage: compare [--packed] [--quick] [--lines] [ROUNDS]\n", stderr);
+        return TROUBLE;
+    }
+    if (lines)
+        print_lines(quick, rounds);
+    else if (packed)
+        run_packed(quick, rounds);
+    else
+        run_all(quick, rounds);
     return 0;
 }

@@ -62,4 +62,7 @@ void parts(int quick, long rounds);
 /* overlays.c: the library's merges and looks beside hand-written C. */
 void overlays(int quick, long rounds);
 
+/* packed.c: the library's packed marks beside its mark bytes. */
+void packed_marks(int quick, long rounds);
+
 #endif

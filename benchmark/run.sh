@@ -1,11 +1,12 @@
 #!/bin/sh
-# run.sh [--places] [--quick] [ROUNDS]: compiles the library's twins and compares them with it. See README.md here.
-# If there is no libcapi.a, libcuts.a or liboverlay_c.a, 'rt staticlib' makes it. SREC_LIB_DIR names another folder that has all three.
+# run.sh [--places | --packed] [--quick] [ROUNDS]: compiles the library's twins and compares them with it. See README.md here.
+# If there is no libcapi.a, libcuts.a, liboverlay_c.a or libpacked_c.a, 'rt staticlib' makes it. SREC_LIB_DIR names another
+# folder that has all four.
 set -eu
 root=$(cd "$(dirname "$0")/.." && pwd)
 folder=${SREC_LIB_DIR:-$root/target/staticlib}
-library=$folder/libcapi.a others="$folder/libcuts.a $folder/liboverlay_c.a"
-for name in capi cuts overlay_c; do
+library=$folder/libcapi.a others="$folder/libcuts.a $folder/liboverlay_c.a $folder/libpacked_c.a"
+for name in capi cuts overlay_c packed_c; do
     [ -f "$folder/lib$name.a" ] || [ -n "${SREC_LIB_DIR:-}" ] || (cd "$root" && rt staticlib "$name" >&2)
     [ -f "$folder/lib$name.a" ] || { echo "$folder/lib$name.a is missing" >&2; exit 2; }
 done
@@ -15,7 +16,7 @@ trap 'exit 2' HUP INT TERM
 places='0 16 32 48'
 
 usage() {
-    echo 'usage: run.sh [--places] [--quick] [ROUNDS]' >&2
+    echo 'usage: run.sh [--places | --packed] [--quick] [ROUNDS]' >&2
     exit 2
 }
 
@@ -97,6 +98,7 @@ compile loads loads
 compile tapes tapes
 compile parts parts
 compile overlays overlays -O3
+compile packed packed
 compile compare compare
 
 gcc --version | head -n 1

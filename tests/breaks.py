@@ -5,16 +5,18 @@
 
 An edit of kind 'library' breaks a library: tests/second under the face of include/srec.h (breaks/library/face.rs), so no
 archive and no prover is needed. tests/compare must notice, or tests/c where that does not. An edit of kind 'answers' breaks
-tests/second itself in what the C face does not show; tests/compare must notice that by way of the program vectors, which
-`rt check vectors` builds (and `rt staticlib capi` the archive that tests/compare links). An edit of kind 'parts' breaks it in
+tests/second itself in what the C face does not show; tests/compare must notice that by way of the program vectors, which `rt
+check vectors` builds (and `rt staticlib capi` the archive that tests/compare links). An edit of kind 'parts' breaks it in
 loads in parts, and tests/compare must notice that by way of the program calls. An edit of kind 'overlay' breaks it in patches
 over a base image; tests/compare must notice that by way of the program patches, and so must the oracle's own tests, and its
-test of the cases of crates/patches. An edit of kind 'calls' breaks the crates themselves; the program calls is compiled with
-it, without a proof, and the cases of crates/calls must notice. An edit of kind 'patches' does so with the program patches; the
-cases of crates/patches must notice, and so must the first cases that tests/compare draws, by the oracle's answers: `rt try`
-leaves no program that tests/compare itself could run. An edit names a file and replaces text that stands there exactly once, or
-several such texts in turn. With no edit nothing may be noticed. SREC_LIB_DIR, VECTORS, CALLS and PATCHES name another folder of
-the archive and other programs. One line an edit; the last line is 'N passed, M failed'."""
+test of the cases of crates/patches. An edit of kind 'packed' breaks it in packed marks; tests/compare must notice that by way
+of one of the three programs, and so must the oracle's own tests, and its tests of the cases of one of the three. An edit of
+kind 'calls' breaks the crates themselves; the program calls is compiled with it, without a proof, and the cases of
+crates/calls must notice. An edit of kind 'patches' does so with the program patches; the cases of crates/patches must notice,
+and so must the first cases that tests/compare draws, by the oracle's answers: `rt try` leaves no program that tests/compare
+itself could run. An edit names a file and replaces text that stands there exactly once, or several such texts in turn. With no
+edit nothing may be noticed. SREC_LIB_DIR, VECTORS, CALLS and PATCHES name another folder of the archive and other programs.
+One line an edit; the last line is 'N passed, M failed'."""
 
 import functools
 import json
@@ -96,8 +98,8 @@ def library(edit, folder):
     return None
 
 
-def second(edit, folder, test, *own):
-    """Edits a copy of tests/second and gives which tests notice: one of tests/compare, and all of these of its own."""
+def second(edit, folder, *groups):
+    """Edits a copy of tests/second and gives which tests notice. A group has a package and tests of it, one of which must."""
     tests = folder / "tests"
     for name in ("second", "compare"):
         shutil.copytree(TESTS / name, tests / name, ignore=shutil.ignore_patterns("target"))
@@ -105,34 +107,52 @@ def second(edit, folder, test, *own):
         apply(edit, tests / "second" / "src")
     built = {name: os.environ.get(name, str(path)) for name, path in BUILT.items()}
     places = {**built, "CARGO_TARGET_DIR": str(folder / "target"), "RUSTFLAGS": "-A warnings"}
-    found = []
-    for package, name in (("compare", test), *[("second", name) for name in own]):
+    found = [noticing(tests / package, names, places) for package, *names in groups]
+    return "; ".join(filter(None, found)) if all(found) or not edit else None
+
+
+def noticing(package, names, places):
+    """The first of some tests of a package that notices, with the package."""
+    for name in names:
         # an edit that does not compile is not one that is noticed
-        compiled = cargo(tests / package, name, "--no-run")
+        compiled = cargo(package, name, "--no-run")
         subprocess.run(compiled, env={**os.environ, **places}, stderr=subprocess.DEVNULL, check=True)
-        run = drawn if package == "compare" else cargo
-        if failures(run(tests / package, name), places):
-            found.append(f"{package} {name}")
-    return "; ".join(found) if len(found) > len(own) or not edit else None
+        run = drawn if package.name == "compare" else cargo
+        if failures(run(package, name), places):
+            return f"{package.name} {name}"
+    return None
+
+
+def copy_cases(folder, *programs):
+    """Puts the cases of programs where the oracle's tests look for them."""
+    for program in programs:
+        cases = folder / "crates" / program
+        cases.mkdir(parents=True)
+        for name in ("stdin", "stdout"):
+            shutil.copy(TESTS.parent / "crates" / program / name, cases)
 
 
 def answers(edit, folder):
     """Whole answers, by the program vectors."""
-    return second(edit, folder, "answers")
+    return second(edit, folder, ("compare", "answers"))
 
 
 def parts(edit, folder):
     """Loads in parts, by the program calls."""
-    return second(edit, folder, "parts")
+    return second(edit, folder, ("compare", "parts"))
 
 
 def overlay(edit, folder):
     """Patches over a base image, by the program patches, by the oracle's tests and by the cases of crates/patches."""
-    cases = folder / "crates" / "patches"
-    cases.mkdir(parents=True)
-    for name in ("stdin", "stdout"):
-        shutil.copy(TESTS.parent / "crates" / "patches" / name, cases)
-    return second(edit, folder, "overlay", "overlay", "patches")
+    copy_cases(folder, "patches")
+    return second(edit, folder, ("compare", "overlay"), ("second", "overlay"), ("second", "patches"))
+
+
+def packed(edit, folder):
+    """Packed marks, by the three programs, by the oracle's tests and by the cases of the three."""
+    programs = ("vectors", "calls", "patches")
+    copy_cases(folder, *programs)
+    return second(edit, folder, ("compare", "overlay", "answers", "parts"), ("second", "packed"), ("second", *programs))
 
 
 def edited(edit, folder):
@@ -202,7 +222,7 @@ def try_edit(kind, edit):
 def main():
     names = sys.argv[1:]
     results = []
-    for kind in (library, answers, parts, overlay, calls, patches):
+    for kind in (library, answers, parts, overlay, packed, calls, patches):
         edits = [None, *sorted((BREAKS / kind.__name__).glob("*.edit"))]
         whole = not names or kind.__name__ in names
         results += [try_edit(kind, edit) for edit in edits if whole or edit and edit.stem in names]

@@ -36,14 +36,16 @@ pub fn print_bench(bench: Bench, memory: &[u8], marks: &[u8])
     print_bytes(b"marks ", &marks[..lent]);
 }
 
-// Begins a load in the window that is lent.
+// Begins a load in the window that is lent, in the form of the one before.
 pub fn begin(bench: Bench, memory: &[u8], marks: &mut [u8]) -> Bench
     requires { ⌜ Room (now memory) (now marks) ⌝ }
 {
     let cells = marks::smaller(bench.cells, ROOM);
     let lent = marks::smaller(bench.marks, ROOM);
     let mut b = bench;
-    let session = session::begin(bench.base, &memory[..cells], &mut marks[..lent]);
+    let before = bench.session;
+    let form = before.form;
+    let session = session::begin_as(form, bench.base, &memory[..cells], &mut marks[..lent]);
     b.session = session;
     b
 }

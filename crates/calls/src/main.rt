@@ -1,6 +1,6 @@
 // Makes the calls of the loads in parts that stand on standard input and prints what they give.
 //
-// A case is a heading line as that of the program `vectors`, with a space before its name; then a line of words, one for each call,
+// A case is a heading line as that of the program `vectors`, with a space before its name, or a `%` for packed marks; then a line of words, one for each call,
 // with spaces between them; then the text, every character of it, up to the next `@`. A load is begun in the window of the heading.
 // Before that the cells hold E0 to EF in turn, and the marks 7. A word is a letter and its numbers, in decimal:
 //
@@ -22,6 +22,7 @@ use bench::Bench;
 use bench::ROOM;
 use libc::STDIN_FILENO;
 use libc::STDOUT_FILENO;
+use marks::Form;
 ghost use mathlib.Core.Path.{_≡_};
 ghost use Prim.Native.Nat.{_≤_, _<_};
 ghost use lib.ListN.{length};
@@ -118,20 +119,37 @@ fn run_words(bench: Bench, words: &[u8], text: &[u8], memory: &mut [u8], marks: 
 }
 
 // Begins a load in buffers that were used before, and runs the words.
-fn run_lent(base: u32, cells: usize, words: &[u8], text: &[u8], memory: &mut [u8], marks: &mut [u8])
+fn run_lent(
+    form: Form,
+    base: u32,
+    cells: usize,
+    words: &[u8],
+    text: &[u8],
+    memory: &mut [u8],
+    marks: &mut [u8],
+)
     requires { ⌜ (cells ≤ 1024) × Room (now memory) (now marks) ⌝ }
 {
     fill_cells(memory);
-    let session = session::begin(base, &memory[..cells], &mut marks[..cells]);
+    let n = marks::smaller(marks::bytes_for(form, cells), cells);
+    let session = session::begin_as(form, base, &memory[..cells], &mut marks[..n]);
     let bench = Bench {
         session,
         kept: session,
         base,
         cells,
-        marks: cells,
+        marks: n,
         at: 0,
     };
     run_words(bench, words, text, memory, marks);
+}
+
+// The form of marks that a heading tells by the character before the name.
+fn form_of(sign: u8) -> Form {
+    if sign == b'%' {
+        return Form::Packed;
+    }
+    Form::Bytes
 }
 
 // Runs the words of a case in the window that its heading gives.
@@ -144,7 +162,15 @@ fn run_window(table: &[u32; 256], heading: &[u8], words: &[u8], text: &[u8])
     let mut memory = [0u8; ROOM];
     // marks that were used before
     let mut marks = [7u8; ROOM];
-    run_lent(base, cells, words, text, &mut memory, &mut marks);
+    run_lent(
+        form_of(heading[18]),
+        base,
+        cells,
+        words,
+        text,
+        &mut memory,
+        &mut marks,
+    );
 }
 
 // Runs the first of some cases, whose heading ends at a place, and returns how many characters it has.

@@ -9,12 +9,19 @@ use lib.Seq.{drop-drop}
 use Rattle.lists.proofs.PartLaws.{take-least}
 use Rattle.lists.proofs.TestLaws.{by-test}
 use Rattle.window.specs.Windows.{Window, windowOf, row1}
+use Rattle.window.specs.declared.Loaded.{Loaded}
+use Rattle.marks.specs.declared.Form.{Form}
+use Rattle.marks.specs.declared.Form.the-variants.{Bytes}
 use Rattle.text.specs.Formats.{plan}
 use Rattle.text.specs.Load.{load, loadAnswer, marksAfter}
 use Rattle.srec.specs.Formats.{srec}
 use Rattle.parts.specs.Parts.{Status, Stage, stage, feed, most, begun, endIn, end}
 use Rattle.parts.specs.Agreement.{feeds, joined, seen, inParts, memoryKept}
+use Rattle.parts.specs.Forms.{feedAs, endAs, answeredIn}
 use Rattle.parts.proofs.Agreement.{short-agrees}
+use Rattle.parts.proofs.FormLaws.{feed-bytes, end-bytes, answered-bytes}
+use Rattle.session.specs.declared.Session.{Session}
+use Rattle.session.specs.Sessions.{statusOf}
 use Rattle.cuts.specs.Cuts.{partsUpTo, partsOf}
 
 -- what stands behind at most so many characters
@@ -26,6 +33,27 @@ drop-least (suc k) (x ∷ xs) = rw (suc-min-suc k (length xs)) (drop-least k xs)
 -- a stage is its status, memory and marks
 stage-is : {x : Status} {memory marks : List ℕ} {w : Stage} → x ≡ w .status → memory ≡ w .memory → marks ≡ w .marks → stage x memory marks ≡ w
 stage-is p q r i = record { status = p i; memory = q i; marks = r i }
+
+-- ---- a mark byte a cell
+
+-- what a part of such a load leaves, and what its end does
+module _ (s : Session) (base : ℕ) (memory marks part : List ℕ) (told : s .form ≡ Bytes) where
+  pub fed-in-bytes : {x : Status} {m k : List ℕ} → let w = feedAs (s .form) (statusOf s) (windowOf base memory marks) part in
+      x ≡ w .status → m ≡ w .memory → k ≡ w .marks
+      → let v = feed base (stage (statusOf s) memory marks) part in (x ≡ v .status) × ((m ≡ v .memory) × (k ≡ v .marks))
+  fed-in-bytes p q r =
+      let e = ap (λ (f : Form). feedAs f (statusOf s) (windowOf base memory marks) part) told ∙ feed-bytes (statusOf s) (windowOf base memory marks) part in
+      (p ∙ ap (λ (w : Stage). w .status) e, (q ∙ ap (λ (w : Stage). w .memory) e, r ∙ ap (λ (w : Stage). w .marks) e))
+
+module _ (s : Session) (base : ℕ) (memory marks : List ℕ) (told : s .form ≡ Bytes) where
+  pub ended-in-bytes : {l : Loaded} {m k : List ℕ} → let w = endAs (s .form) (statusOf s) (windowOf base memory marks) in
+      l ≡ answeredIn (s .form) (w .status) (w .marks) → m ≡ w .memory → k ≡ w .marks
+      → let v = seen (endIn (statusOf s) (windowOf base memory marks)) in (l ≡ v .answer) × ((m ≡ v .memory) × (k ≡ v .marks))
+  ended-in-bytes p q r =
+      let e = ap (λ (f : Form). endAs f (statusOf s) (windowOf base memory marks)) told ∙ end-bytes (statusOf s) (windowOf base memory marks) in (
+        p ∙ (λ i. answeredIn (told i) (e i .status) (e i .marks)) ∙ answered-bytes (end base (stage (statusOf s) memory marks) .status) (end base (stage (statusOf s) memory marks) .marks),
+        (q ∙ ap (λ (w : Stage). w .memory) e, r ∙ ap (λ (w : Stage). w .marks) e),
+      )
 
 -- ---- the parts one after the other
 

@@ -6,6 +6,7 @@ ghost use lib.ListN.{length};
 ghost use Rattle.window.specs.Windows.{windowOf};
 ghost use Rattle.parts.specs.Parts.{stage};
 ghost use Rattle.parts.specs.Agreement.{feeds, inParts};
+ghost use Rattle.marks.specs.declared.Form.the-variants.{Bytes};
 ghost use Rattle.session.specs.Sessions.{statusOf};
 ghost use Rattle.cuts.specs.Cuts.{partsUpTo, partsOf};
 
@@ -25,10 +26,11 @@ fn feed_parts(
     memory: &mut [u8],
     marks: &mut [u8],
 ) -> Session
-    requires { ⌜ 0 < size ⌝ }
+    requires { ⌜ (0 < size) × (session .form ≡ Bytes) ⌝ }
     ensures status { λ r. ⌜ statusOf r ≡ feeds base (stage (statusOf session) (now (memory .entry)) (now (marks .entry))) (partsUpTo (length (now (text .entry))) size (now (text .entry))) .status ⌝ }
     ensures memory { λ _. ⌜ now (memory .exit) ≡ feeds base (stage (statusOf session) (now (memory .entry)) (now (marks .entry))) (partsUpTo (length (now (text .entry))) size (now (text .entry))) .memory ⌝ }
     ensures marks { λ _. ⌜ now (marks .exit) ≡ feeds base (stage (statusOf session) (now (memory .entry)) (now (marks .entry))) (partsUpTo (length (now (text .entry))) size (now (text .entry))) .marks ⌝ }
+    ensures form { λ r. ⌜ r .form ≡ Bytes ⌝ }
 {
     let mut s = session;
     let mut at = 0;

@@ -1,15 +1,25 @@
 -- The end of a load in parts: one law for each answer of `finish`.
 use mathlib.Core.Path.{_≡_, sym, ap, _∙_, subst}
+use native.Mathlib.Omega.{arith}
 use Prim.Native.Nat.{ℕ, _<_}
 use mathlib.Core.Bool.{true, false}
 use mathlib.Core.List.{List, [], _++_, append-nil}
 use lib.ListN.{length, take}
 use lib.Seq.{take-all}
-use borrow.Author.Tests.{eq-eqb, ne-eqb}
+use lib.Dec.{eqb}
+use mathlib.Core.Option.{Option, none, some}
+use borrow.Author.Tests.{eq-eqb, ne-eqb, eqb-false}
+use Rattle.lists.proofs.TestLaws.{by-test}
+use Rattle.window.specs.declared.Entry.{Entry}
+use Rattle.window.specs.declared.Loaded.{Loaded}
 use Rattle.window.specs.declared.Refusal.{Refusal}
-use Rattle.window.specs.Windows.{windowOf}
+use Rattle.window.specs.Windows.{Window, windowOf}
 use Rattle.window.specs.Plans.{refusal}
-use Rattle.parts.specs.Parts.{Going, Stage, stage, stopped, Turn, lineTurn, afterTurn, closed, conclude, row1Later, endIn}
+use Rattle.marks.specs.declared.Form.{Form}
+use Rattle.marks.specs.Forms.{plain, counted, row1In}
+use Rattle.marks.proofs.RowLaws.{allowed-in}
+use Rattle.parts.specs.Parts.{Going, Stage, stage, stopped, Turn, lineTurn, afterTurn, closed, conclude, row1Later, endIn, saidBy, answered}
+use Rattle.parts.specs.Forms.{inForm, row1LaterIn, endAs, saidIn, answeredIn}
 use Rattle.parts.specs.Parts.Status.{going}
 use Rattle.parts.specs.Parts.Turn.{halt, next}
 use Rattle.parts.specs.Stretches.{fresh}
@@ -19,16 +29,64 @@ use Rattle.intake.specs.Tallies.{knownOf}
 use Rattle.session.specs.declared.Session.{Session}
 use Rattle.session.specs.Sessions.{goingOf, statusOf}
 use Rattle.take_part.proofs.AllowedLaws.{held-short, Allowed, same-length}
+use Rattle.feed.proofs.FormLaws.{stopped-in}
 
 module _ (s : Session) (base : ℕ) (memory marks : List ℕ) where
+  abbrev form : Form
+  form = s .form
+
+  abbrev W : Window
+  W = windowOf base memory marks
+
   -- an earlier refusal stays
-  pub end-refused : (s .refusal .reason ≡ 0 → ⊥) → endIn (statusOf s) (windowOf base memory marks) ≡ stage (statusOf s) memory marks
+  pub end-refused : (s .refusal .reason ≡ 0 → ⊥) → endAs form (statusOf s) W ≡ stage (statusOf s) memory marks
   end-refused z = rw (ne-eqb (s .refusal .reason) 0 z)
 
   -- row 1
-  pub end-barred : s .refusal .reason ≡ 0 → row1Later (windowOf base memory marks) (goingOf s) ≡ true
-      → endIn (statusOf s) (windowOf base memory marks) ≡ stopped (refusal 1 0 0) memory marks
-  end-barred z q = rw (eq-eqb (s .refusal .reason) 0 z, q)
+  pub end-barred : s .refusal .reason ≡ 0 → row1LaterIn form W (goingOf s) ≡ true → endAs form (statusOf s) W ≡ stopped (refusal 1 0 0) memory marks
+  unfolding row1LaterIn
+  end-barred z q =
+      by-test (row1In form W) (λ t. rw (eq-eqb (s .refusal .reason) 0 z, t))
+      (λ t. let later : row1Later (plain form W) (goingOf s) ≡ true = rw t at q in
+      rw (eq-eqb (s .refusal .reason) 0 z, t, later) (stopped-in form (length memory) memory marks (allowed-in form W t .0) (refusal 1 0 0)))
+
+  -- where row 1 of the form does not apply, the end of the flags is stored
+  pub end-read : s .refusal .reason ≡ 0 → row1In form W ≡ false → endAs form (statusOf s) W ≡ inForm form (endIn (statusOf s) (plain form W))
+  end-read z a = rw (eq-eqb (s .refusal .reason) 0 z, a)
+
+  -- an end that is not refused had an allowed window
+  pub ended-fits : answered (endAs form (statusOf s) W .status) .refusal .reason ≡ 0 → row1In form W ≡ false
+  ended-fits h =
+      by-test (eqb (s .refusal .reason) 0)
+      (λ e. by-test (row1In form W) (λ t. absurd (let y : _≡_ {A = ℕ} 1 0 = rw (e, t) at h in omega arith)) (λ t. t))
+      (λ e. absurd (eqb-false (s .refusal .reason) 0 e (rw e at h)))
+
+-- ---- the count
+
+-- an answer without a refusal, with the cells that the marks give
+pub recounts : (form : Form) (r : Session) (marks : List ℕ) (l : Loaded) → l ≡ answered (statusOf r) → l .refusal .reason ≡ 0
+    → record { refusal = l .refusal; header = l .header; entry = l .entry; records = l .records; cells = counted form marks (l .cells) }
+    ≡ answeredIn form (statusOf r) marks
+recounts form r marks l e h =
+    by-test (eqb (r .refusal .reason) 0)
+    (λ t. rw t (went (goingOf r .known .entry) (rw t at e)))
+    (λ t. absurd (eqb-false (r .refusal .reason) 0 t (sym (ap (λ (x : Loaded). x .refusal .reason) (rw t at e)) ∙ h)))
+  where
+    went : (o : Option Entry) → l ≡ saidBy (goingOf r) o
+        → record { refusal = l .refusal; header = l .header; entry = l .entry; records = l .records; cells = counted form marks (l .cells) }
+        ≡ saidIn form marks (goingOf r) o
+    went none q = absurd (let y : _≡_ {A = ℕ} 14 0 = sym (ap (λ (x : Loaded). x .refusal .reason) q) ∙ h in omega arith)
+    went (some x) q = rw q
+
+-- a refused answer counts nothing
+pub no-count : (form : Form) (r : Session) (marks : List ℕ) (l : Loaded) → l ≡ answered (statusOf r) → (l .refusal .reason ≡ 0 → ⊥)
+    → l ≡ answeredIn form (statusOf r) marks
+no-count form r marks l e h =
+    by-test (eqb (r .refusal .reason) 0) (λ t. rw t (went (goingOf r .known .entry) (rw t at e))) (λ t. rw t (rw t at e))
+  where
+    went : (o : Option Entry) → l ≡ saidBy (goingOf r) o → l ≡ saidIn form marks (goingOf r) o
+    went none q = q
+    went (some x) q = absurd (h (ap (λ (y : Loaded). y .refusal .reason) q))
 
 -- the record that is not complete is read
 module _ (p : Allowed) (goes : p .session .refusal .reason ≡ 0) where

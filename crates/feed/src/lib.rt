@@ -5,7 +5,7 @@ use session::Session;
 use window::Loaded;
 ghost use mathlib.Core.Path.{_≡_};
 ghost use Rattle.window.specs.Windows.{windowOf};
-ghost use Rattle.parts.specs.Parts.{feedIn, endIn, answered};
+ghost use Rattle.parts.specs.Forms.{feedAs, endAs, answeredIn};
 ghost use Rattle.session.specs.Sessions.{statusOf};
 
 // What ended a load: its answer, and the state behind it.
@@ -14,7 +14,7 @@ pub struct Ended {
     pub session: Session,
 }
 
-// Takes one more part of the text, of any length.
+// Takes one more part of the text, of any length. Bits of packed marks that stand for no cell are cleared first.
 pub fn feed(
     session: Session,
     part: &[u8],
@@ -22,9 +22,10 @@ pub fn feed(
     memory: &mut [u8],
     marks: &mut [u8],
 ) -> Session
-    ensures status { λ r. ⌜ statusOf r ≡ feedIn (statusOf session) (windowOf base (now (memory .entry)) (now (marks .entry))) (now (part .entry)) .status ⌝ }
-    ensures memory { λ _. ⌜ now (memory .exit) ≡ feedIn (statusOf session) (windowOf base (now (memory .entry)) (now (marks .entry))) (now (part .entry)) .memory ⌝ }
-    ensures marks { λ _. ⌜ now (marks .exit) ≡ feedIn (statusOf session) (windowOf base (now (memory .entry)) (now (marks .entry))) (now (part .entry)) .marks ⌝ }
+    ensures status { λ r. ⌜ statusOf r ≡ feedAs (session .form) (statusOf session) (windowOf base (now (memory .entry)) (now (marks .entry))) (now (part .entry)) .status ⌝ }
+    ensures memory { λ _. ⌜ now (memory .exit) ≡ feedAs (session .form) (statusOf session) (windowOf base (now (memory .entry)) (now (marks .entry))) (now (part .entry)) .memory ⌝ }
+    ensures marks { λ _. ⌜ now (marks .exit) ≡ feedAs (session .form) (statusOf session) (windowOf base (now (memory .entry)) (now (marks .entry))) (now (part .entry)) .marks ⌝ }
+    ensures form { λ r. ⌜ r .form ≡ session .form ⌝ }
 {
     let refusal = session.refusal;
     if refusal.reason != 0 {
@@ -39,6 +40,8 @@ pub fn feed(
         let state = tally.state;
         return session::halt(session, window::refuse(20, state.number, total), marks);
     }
+    let form = session.form;
+    marks::tidy(form, marks, memory.len());
     // where no line ends in the part, no digit is read
     let first = lines::count_chars(Format::Records, part);
     if first == part.len() {
@@ -53,9 +56,10 @@ pub fn feed(
 
 // The state behind the end: the record that is not complete is read, and row 14 is tried.
 fn finish(session: Session, base: u32, memory: &mut [u8], marks: &mut [u8]) -> Session
-    ensures status { λ r. ⌜ statusOf r ≡ endIn (statusOf session) (windowOf base (now (memory .entry)) (now (marks .entry))) .status ⌝ }
-    ensures memory { λ _. ⌜ now (memory .exit) ≡ endIn (statusOf session) (windowOf base (now (memory .entry)) (now (marks .entry))) .memory ⌝ }
-    ensures marks { λ _. ⌜ now (marks .exit) ≡ endIn (statusOf session) (windowOf base (now (memory .entry)) (now (marks .entry))) .marks ⌝ }
+    ensures status { λ r. ⌜ statusOf r ≡ endAs (session .form) (statusOf session) (windowOf base (now (memory .entry)) (now (marks .entry))) .status ⌝ }
+    ensures memory { λ _. ⌜ now (memory .exit) ≡ endAs (session .form) (statusOf session) (windowOf base (now (memory .entry)) (now (marks .entry))) .memory ⌝ }
+    ensures marks { λ _. ⌜ now (marks .exit) ≡ endAs (session .form) (statusOf session) (windowOf base (now (memory .entry)) (now (marks .entry))) .marks ⌝ }
+    ensures form { λ r. ⌜ r .form ≡ session .form ⌝ }
 {
     let refusal = session.refusal;
     if refusal.reason != 0 {
@@ -64,6 +68,9 @@ fn finish(session: Session, base: u32, memory: &mut [u8], marks: &mut [u8]) -> S
     if session::is_barred(session, base, memory, marks) {
         return session::halt(session, window::refuse(1, 0, 0), marks);
     }
+    let form = session.form;
+    let cells = memory.len();
+    marks::tidy(form, marks, cells);
     let table = hex::digit_table();
     let total = session.total;
     let tally = session.tally;
@@ -80,6 +87,7 @@ fn finish(session: Session, base: u32, memory: &mut [u8], marks: &mut [u8]) -> S
         tally,
         &mut header,
         memory,
+        form,
         marks,
     );
     match turn {
@@ -94,15 +102,21 @@ fn finish(session: Session, base: u32, memory: &mut [u8], marks: &mut [u8]) -> S
     }
 }
 
-// Ends a load in parts. A call behind it goes on from the state that is given back: a refused one stays refused.
+// Ends a load in parts; the cells of packed marks are counted in them. A call behind it goes on from the state that is given back: a refused one stays refused.
 pub fn end(session: Session, base: u32, memory: &mut [u8], marks: &mut [u8]) -> Ended
-    ensures answer { λ r. ⌜ r .loaded ≡ answered (endIn (statusOf session) (windowOf base (now (memory .entry)) (now (marks .entry))) .status) ⌝ }
-    ensures status { λ r. ⌜ statusOf (r .session) ≡ endIn (statusOf session) (windowOf base (now (memory .entry)) (now (marks .entry))) .status ⌝ }
-    ensures memory { λ _. ⌜ now (memory .exit) ≡ endIn (statusOf session) (windowOf base (now (memory .entry)) (now (marks .entry))) .memory ⌝ }
-    ensures marks { λ _. ⌜ now (marks .exit) ≡ endIn (statusOf session) (windowOf base (now (memory .entry)) (now (marks .entry))) .marks ⌝ }
+    ensures answer { λ r. ⌜ r .loaded ≡ answeredIn (session .form) (endAs (session .form) (statusOf session) (windowOf base (now (memory .entry)) (now (marks .entry))) .status) (endAs (session .form) (statusOf session) (windowOf base (now (memory .entry)) (now (marks .entry))) .marks) ⌝ }
+    ensures status { λ r. ⌜ statusOf (r .session) ≡ endAs (session .form) (statusOf session) (windowOf base (now (memory .entry)) (now (marks .entry))) .status ⌝ }
+    ensures memory { λ _. ⌜ now (memory .exit) ≡ endAs (session .form) (statusOf session) (windowOf base (now (memory .entry)) (now (marks .entry))) .memory ⌝ }
+    ensures marks { λ _. ⌜ now (marks .exit) ≡ endAs (session .form) (statusOf session) (windowOf base (now (memory .entry)) (now (marks .entry))) .marks ⌝ }
+    ensures form { λ r. ⌜ r .session .form ≡ session .form ⌝ }
 {
     let last = finish(session, base, memory, marks);
-    let loaded = session::answer(last);
+    let mut loaded = session::answer(last);
+    let refusal = loaded.refusal;
+    if refusal.reason == 0 {
+        let form = session.form;
+        loaded.cells = marks::count(form, marks, loaded.cells);
+    }
     Ended {
         loaded,
         session: last,

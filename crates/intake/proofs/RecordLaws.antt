@@ -12,6 +12,7 @@ use Rattle.window.specs.declared.Entry.{Entry}
 use Rattle.window.specs.declared.Entry.the-variants.{Absent}
 use Rattle.window.specs.Plans.{refusalWith, refusal, row12}
 use Rattle.window.specs.Marks.{claimRow, claimed}
+use Rattle.window.proofs.MarkLaws.{granted-inside}
 use Rattle.text.specs.declared.State.{State}
 use Rattle.text.specs.declared.Step.{Step}
 use Rattle.text.specs.declared.Step.the-variants.{Refuse, Pass, Put, Finish}
@@ -30,7 +31,6 @@ use Rattle.srec_step.proofs.JudgeLaws.{counting}
 use Rattle.storing.specs.Stores.{storedBy, Placeable}
 use Rattle.parts.specs.Parts.{Known, Turn, stored, stepTurn, recordTurn, lineTurn}
 use Rattle.parts.specs.Parts.Turn.{halt, next}
-use Rattle.parts.proofs.GrowthLaws.{granted-inside}
 use Rattle.intake.specs.declared.Tally.{Tally}
 use Rattle.intake.specs.Tallies.{stateOf, entryOf, knownOf, IsGood}
 

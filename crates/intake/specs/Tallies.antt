@@ -6,6 +6,8 @@ use mathlib.Core.List.{List}
 use mathlib.Core.Option.{Option, none, some}
 use lib.ListN.{take}
 use Rattle.window.specs.declared.Entry.{Entry}
+use Rattle.marks.specs.declared.Form.{Form}
+use Rattle.marks.specs.Forms.{Tidy}
 use Rattle.text.specs.Scan.{State as ScanState}
 use Rattle.text.specs.declared.State.{State}
 use Rattle.text.specs.Steps.{stateWith}
@@ -29,10 +31,16 @@ entryOf t = cond (t .ended) (some (t .entry)) none
 abbrev pub knownOf : Tally → List ℕ → Known
 knownOf t header = record { state = stateOf t header; entry = entryOf t }
 
--- what a line left, against the turn that the definitions take; a refusal leaves memory as it was, and marks and header free
+-- what a line left, against the turn that the definitions take, with flags for marks; a refusal leaves memory as it was, and marks and
+-- header free
 abbrev pub Took : PartsTurn → Turn → List ℕ → List ℕ → List ℕ → List ℕ → Type 0
 Took t (Refused f) header memory marks memory₀ = (t ≡ halt f) × (memory ≡ memory₀)
 Took t (Next y) header memory marks memory₀ = t ≡ next (knownOf y header) memory marks
+
+-- the marks of n cells behind it have no spare bit set; a refusal leaves them free
+abbrev pub TidyTurn : Form → ℕ → Turn → List ℕ → Type 0
+TidyTurn form n (Refused f) marks = Unit {0}
+TidyTurn form n (Next y) marks = Tidy form n marks
 
 -- a record that was read
 abbrev pub IsGood : Read → Type 0

@@ -20,7 +20,8 @@ ghost use Rattle.srec.specs.Reading.{read};
 ghost use Rattle.srec.specs.Judging.{carried};
 ghost use Rattle.srec.specs.Formats.{srec};
 ghost use Rattle.parts.specs.Parts.{recordTurn};
-ghost use Rattle.intake.specs.Tallies.{stateOf, entryOf, IsGood, Took, Roomy};
+ghost use Rattle.marks.specs.Forms.{flags, Tidy};
+ghost use Rattle.intake.specs.Tallies.{stateOf, entryOf, IsGood, Took, TidyTurn, Roomy};
 ghost use Rattle.intake.specs.Takes.{nextIn};
 
 // What the records read so far say: their numbers, the length of the header, and once a terminator was read its entry.
@@ -74,11 +75,13 @@ pub fn take_step(
     tally: Tally,
     header: &mut [u8],
     memory: &mut [u8],
+    form: Form,
     marks: &mut [u8],
 ) -> Turn
-    requires { ⌜ (now table ≡ digitTable) × (length (now memory) ≡ length (now marks)) × (length (now header) ≡ 252) × (tally .state .number + 1 < 2 ^ 64) ⌝ }
+    requires { ⌜ (now table ≡ digitTable) × Tidy form (length (now memory)) (now marks) × (length (now header) ≡ 252) × (tally .state .number + 1 < 2 ^ 64) ⌝ }
     requires { ⌜ step ≡ asStep place (stateWith [] (tally .state)) (srec .step (stateWith [] (tally .state)) (now chars)) ⌝ }
-    ensures { λ r. ⌜ Took (recordTurn base place (now (chars .entry)) (now (memory .entry)) (now (marks .entry)) (stateOf tally (now (header .entry))) (entryOf tally)) r (now (header .exit)) (now (memory .exit)) (now (marks .exit)) (now (memory .entry)) ⌝ }
+    ensures { λ r. ⌜ Took (recordTurn base place (now (chars .entry)) (now (memory .entry)) (flags form (length (now (memory .entry))) (now (marks .entry))) (stateOf tally (now (header .entry))) (entryOf tally)) r (now (header .exit)) (now (memory .exit)) (flags form (length (now (memory .entry))) (now (marks .exit))) (now (memory .entry)) ⌝ }
+    ensures { λ r. ⌜ TidyTurn form (length (now (memory .entry))) r (now (marks .exit)) ⌝ }
 {
     let state = tally.state;
     let number = state.number + 1;
@@ -104,7 +107,7 @@ pub fn take_step(
         }
         Step::Put(next, address, count) => {
             let cells = memory.len();
-            let reason = marks::claim(Form::Bytes, marks, cells, base, address as usize, count);
+            let reason = marks::claim(form, marks, cells, base, address as usize, count);
             if reason != 0 {
                 return Turn::Refused(window::refuse(reason, number, place));
             }

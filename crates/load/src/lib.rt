@@ -15,6 +15,8 @@ ghost use Rattle.text.specs.Formats.{plan};
 ghost use Rattle.text.specs.Load.{load, loadAnswer, memoryAfter, marksAfter};
 ghost use Rattle.srec.specs.Formats.{srec};
 ghost use Rattle.tape.specs.Formats.{tape};
+ghost use Rattle.marks.specs.Forms.{marksLeft};
+ghost use Rattle.forms.specs.Calls.{loadIn, answerIn};
 ghost use Rattle.formats.specs.Choices.{formatOf};
 
 // The answer of a load that is refused.
@@ -43,19 +45,21 @@ pub fn accepted_answer(header: Header, entry: Entry, records: usize, cells: usiz
     }
 }
 
-// Loads a text of the format that is told into a window. Nothing is stored before the whole text was checked, so a refusal leaves memory unchanged.
+// Loads a text of the format that is told into a window whose marks are stored in the form that is told. Nothing is stored before the
+// whole text was checked, so a refusal leaves memory unchanged.
 pub fn load_as(
     format: Format,
+    form: Form,
     text: &[u8],
     base: u32,
     memory: &mut [u8],
     marks: &mut [u8],
 ) -> Loaded
-    ensures answer { λ r. ⌜ r ≡ loadAnswer (load (windowOf base (now (memory .entry)) (now (marks .entry))) (plan (formatOf format) (now (text .entry)))) ⌝ }
-    ensures memory { λ _. ⌜ now (memory .exit) ≡ memoryAfter (now (memory .entry)) (load (windowOf base (now (memory .entry)) (now (marks .entry))) (plan (formatOf format) (now (text .entry)))) ⌝ }
-    ensures marks { λ _. ⌜ now (marks .exit) ≡ marksAfter (now (marks .entry)) (load (windowOf base (now (memory .entry)) (now (marks .entry))) (plan (formatOf format) (now (text .entry)))) ⌝ }
+    ensures answer { λ r. ⌜ r ≡ answerIn form (loadIn form (windowOf base (now (memory .entry)) (now (marks .entry))) (plan (formatOf format) (now (text .entry)))) ⌝ }
+    ensures memory { λ _. ⌜ now (memory .exit) ≡ memoryAfter (now (memory .entry)) (loadIn form (windowOf base (now (memory .entry)) (now (marks .entry))) (plan (formatOf format) (now (text .entry)))) ⌝ }
+    ensures marks { λ _. ⌜ now (marks .exit) ≡ marksLeft form (now (marks .entry)) (loadIn form (windowOf base (now (memory .entry)) (now (marks .entry))) (plan (formatOf format) (now (text .entry)))) ⌝ }
 {
-    let allowed = window::is_allowed(base, memory, marks);
+    let allowed = marks::is_allowed(form, base, memory, marks);
     marks::clear(marks);
     if !allowed {
         return refused_answer(window::refuse(1, 0, 0));
@@ -63,7 +67,7 @@ pub fn load_as(
     let table = hex::digit_table();
     let low = base as usize;
     let size = memory.len();
-    let checked = checking::check(format, &table, text, low, Form::Bytes, marks, size);
+    let checked = checking::check(format, &table, text, low, form, marks, size);
     match checked {
         Checked::Refused(refusal) => return refused_answer(refusal),
         Checked::Accepted {
@@ -73,21 +77,22 @@ pub fn load_as(
         } => {
             storing::store_all(format, &table, text, low, memory);
             let header = storing::header_of(format, &table, text);
-            return accepted_answer(header, entry, records, cells);
+            let count = marks::count(form, marks, cells);
+            return accepted_answer(header, entry, records, count);
         }
     }
 }
 
-// Loads a text of S-records into a window.
+// Loads a text of S-records into a window with a mark byte a cell.
 pub fn load(text: &[u8], base: u32, memory: &mut [u8], marks: &mut [u8]) -> Loaded
     ensures answer { λ r. ⌜ r ≡ loadAnswer (load (windowOf base (now (memory .entry)) (now (marks .entry))) (plan srec (now (text .entry)))) ⌝ }
     ensures memory { λ _. ⌜ now (memory .exit) ≡ memoryAfter (now (memory .entry)) (load (windowOf base (now (memory .entry)) (now (marks .entry))) (plan srec (now (text .entry)))) ⌝ }
     ensures marks { λ _. ⌜ now (marks .exit) ≡ marksAfter (now (marks .entry)) (load (windowOf base (now (memory .entry)) (now (marks .entry))) (plan srec (now (text .entry)))) ⌝ }
 {
-    load_as(Format::Records, text, base, memory, marks)
+    load_as(Format::Records, Form::Bytes, text, base, memory, marks)
 }
 
-// Loads a paper tape of an edition into a window.
+// Loads a paper tape of an edition into such a window.
 pub fn load_tape(
     edition: Edition,
     text: &[u8],
@@ -99,5 +104,12 @@ pub fn load_tape(
     ensures memory { λ _. ⌜ now (memory .exit) ≡ memoryAfter (now (memory .entry)) (load (windowOf base (now (memory .entry)) (now (marks .entry))) (plan (tape edition) (now (text .entry)))) ⌝ }
     ensures marks { λ _. ⌜ now (marks .exit) ≡ marksAfter (now (marks .entry)) (load (windowOf base (now (memory .entry)) (now (marks .entry))) (plan (tape edition) (now (text .entry)))) ⌝ }
 {
-    load_as(Format::Tape(edition), text, base, memory, marks)
+    load_as(
+        Format::Tape(edition),
+        Form::Bytes,
+        text,
+        base,
+        memory,
+        marks,
+    )
 }

@@ -1,3 +1,2 @@
-pub mod FormLaws
 pub mod SourceLaws
 pub mod PartLaws

@@ -8,6 +8,7 @@ ghost use denote.Ref.{ptr};
 ghost use lib.ListN.{length};
 ghost use Rattle.window.specs.Windows.{windowOf};
 ghost use Rattle.marks.specs.Forms.{markBytes, plain};
+ghost use Rattle.overlay.specs.Forms.{lookSourceIn, lookPartIn, lookPlaceIn};
 ghost use Rattle.overlay.specs.Looks.{sourceAt, partOf, placeOf, lookSource, lookPart, lookPlace};
 ghost use Rattle.overlay.specs.Facts.{names};
 
@@ -74,8 +75,10 @@ fn part_at<'a>(
     }
 }
 
-// Which image a look at an address shows: the source of the part that `look` gives.
-pub fn look_source(
+// Which image a look at an address shows, of images whose marks are stored in the form that is told: the source of the part that
+// `look_as` gives.
+pub fn look_source_as(
+    form: Form,
     base: u32,
     base_memory: &[u8],
     base_marks: &[u8],
@@ -83,9 +86,10 @@ pub fn look_source(
     patch_marks: &[u8],
     address: u32,
 ) -> Source
-    ensures { λ r. ⌜ r ≡ lookSource (windowOf base (now («base_memory» .entry)) (now («base_marks» .entry))) (windowOf base (now («patch_memory» .entry)) (now («patch_marks» .entry))) address ⌝ }
+    ensures { λ r. ⌜ r ≡ lookSourceIn form (windowOf base (now («base_memory» .entry)) (now («base_marks» .entry))) (windowOf base (now («patch_memory» .entry)) (now («patch_marks» .entry))) address ⌝ }
 {
     let refusal = overlay::first_row(
+        form,
         base,
         base_memory,
         base_marks,
@@ -97,6 +101,63 @@ pub fn look_source(
         return Source::Refused(refusal);
     }
     source_at(
+        form,
+        base,
+        base_memory,
+        base_marks,
+        patch_memory,
+        patch_marks,
+        address,
+    )
+}
+
+// The longest run from an address on whose cells all come from one image, as a part of that image's memory. Where `look_source_as`
+// names no image the part is empty, and lies somewhere in the base's memory.
+pub fn look_as<'a>(
+    form: Form,
+    base: u32,
+    base_memory: &'a [u8],
+    base_marks: &[u8],
+    patch_memory: &'a [u8],
+    patch_marks: &[u8],
+    address: u32,
+) -> &'a [u8]
+    ensures part { λ r. ⌜ now r ≡ lookPartIn form (windowOf base (now («base_memory» .entry)) (now («base_marks» .entry))) (windowOf base (now («patch_memory» .entry)) (now («patch_marks» .entry))) address ⌝ }
+    ensures place { λ r. ⌜ ptr r ≡ lookPlaceIn form (windowOf base (now («base_memory» .entry)) (now («base_marks» .entry))) (windowOf base (now («patch_memory» .entry)) (now («patch_marks» .entry))) address (ptr («base_memory» .entry)) (ptr («patch_memory» .entry)) ⌝ }
+{
+    let source = look_source_as(
+        form,
+        base,
+        base_memory,
+        base_marks,
+        patch_memory,
+        patch_marks,
+        address,
+    );
+    part_at(
+        source,
+        form,
+        base,
+        base_memory,
+        base_marks,
+        patch_memory,
+        patch_marks,
+        address,
+    )
+}
+
+// Which image a look at an address shows, of images with a mark byte a cell.
+pub fn look_source(
+    base: u32,
+    base_memory: &[u8],
+    base_marks: &[u8],
+    patch_memory: &[u8],
+    patch_marks: &[u8],
+    address: u32,
+) -> Source
+    ensures { λ r. ⌜ r ≡ lookSource (windowOf base (now («base_memory» .entry)) (now («base_marks» .entry))) (windowOf base (now («patch_memory» .entry)) (now («patch_marks» .entry))) address ⌝ }
+{
+    look_source_as(
         Form::Bytes,
         base,
         base_memory,
@@ -107,8 +168,7 @@ pub fn look_source(
     )
 }
 
-// The longest run from an address on whose cells all come from one image, as a part of that image's memory. Where `look_source` names
-// no image the part is empty, and lies somewhere in the base's memory.
+// The run that such a look shows.
 pub fn look<'a>(
     base: u32,
     base_memory: &'a [u8],
@@ -120,16 +180,7 @@ pub fn look<'a>(
     ensures part { λ r. ⌜ now r ≡ lookPart (windowOf base (now («base_memory» .entry)) (now («base_marks» .entry))) (windowOf base (now («patch_memory» .entry)) (now («patch_marks» .entry))) address ⌝ }
     ensures place { λ r. ⌜ ptr r ≡ lookPlace (windowOf base (now («base_memory» .entry)) (now («base_marks» .entry))) (windowOf base (now («patch_memory» .entry)) (now («patch_marks» .entry))) address (ptr («base_memory» .entry)) (ptr («patch_memory» .entry)) ⌝ }
 {
-    let source = look_source(
-        base,
-        base_memory,
-        base_marks,
-        patch_memory,
-        patch_marks,
-        address,
-    );
-    part_at(
-        source,
+    look_as(
         Form::Bytes,
         base,
         base_memory,

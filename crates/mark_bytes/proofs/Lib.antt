@@ -1,3 +1,2 @@
 pub mod MarkSearchLaws
 pub mod BadLaws
-pub mod ShownLaws

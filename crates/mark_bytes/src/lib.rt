@@ -1,14 +1,12 @@
-// Marks of one byte a cell: filled, searched, and cells laid over memory by them.
+// Marks of one byte a cell: filled, and searched.
 ghost use mathlib.Core.Path.{_≡_};
 ghost use mathlib.Core.Bool.{true};
 ghost use Prim.Native.Nat.{_+_, _≤_};
 ghost use lib.Dec.{eqb, ltb};
 ghost use lib.ListN.{length, take, drop, replicate};
-ghost use Rattle.window.specs.Images.{image, overlaid};
 ghost use Rattle.window.specs.Marks.{isFree};
 ghost use Rattle.window.specs.Walks.{unmarked, run};
 ghost use Rattle.window.specs.Windows.{firstBadMark, row16};
-ghost use Rattle.mark_bytes.specs.Shown.{shownOver};
 
 // So many marks are looked at together.
 const BLOCK: usize = 16;
@@ -139,23 +137,4 @@ pub fn has_bad(marks: &[u8]) -> bool
     ensures { λ r. ⌜ r ≡ row16 (now (marks .entry)) ⌝ }
 {
     1 < any_of(marks)
-}
-
-// Of the bytes of a cell and of the one that lies over it, that which shows.
-fn upper(mark: u8, under: u8, over: u8) -> u8
-    ensures { λ r. ⌜ r ≡ shownOver mark under over ⌝ }
-{
-    if mark == 0 { under } else { over }
-}
-
-// Lays the bytes of marked cells over memory; all others stay. It stores each byte anew, with no branch: that is faster.
-pub fn lay_bytes(memory: &mut [u8], bytes: &[u8], marks: &[u8])
-    requires { ⌜ (length (now bytes) ≡ length (now memory)) × (length (now marks) ≡ length (now memory)) ⌝ }
-    ensures { λ _. ⌜ now (memory .exit) ≡ overlaid (now (memory .entry)) (image (now (bytes .entry)) (now (marks .entry))) ⌝ }
-{
-    let mut i: usize = 0;
-    while i < memory.len() {
-        memory[i] = upper(marks[i], memory[i], bytes[i]);
-        i += 1;
-    }
 }

@@ -11,6 +11,7 @@ ghost use lib.ListN.{length};
 ghost use Rattle.window.specs.Headers.{headerOf, row15};
 ghost use Rattle.window.specs.Plans.{isPresent};
 ghost use Rattle.overlay.specs.Layers.{laid, nonEmpty};
+ghost use Rattle.overlay.specs.Forms.{mergeAnswerIn, memoryAfterIn, marksAfterIn};
 ghost use Rattle.overlay.specs.Merges.{lent, refusedMerge, mergeAnswer, memoryAfter, marksAfter};
 
 // A header has at most so many bytes.
@@ -58,7 +59,49 @@ fn refused(refusal: Refusal) -> Merged
     }
 }
 
-// Merges a patch into a base, in the base's buffers; or says which row refuses that, and changes nothing.
+// Merges a patch into a base, in the base's buffers, both with marks stored in the form that is told; or says which row refuses that, and
+// changes nothing.
+pub fn merge_as(
+    form: Form,
+    base: u32,
+    base_memory: &mut [u8],
+    base_marks: &mut [u8],
+    base_header: &[u8],
+    base_entry: Entry,
+    patch_memory: &[u8],
+    patch_marks: &[u8],
+    patch_header: &[u8],
+    patch_entry: Entry,
+) -> Merged
+    ensures answer { λ r. ⌜ r ≡ mergeAnswerIn form base (lent (now («base_memory» .entry)) (now («base_marks» .entry)) (now («base_header» .entry)) «base_entry») (lent (now («patch_memory» .entry)) (now («patch_marks» .entry)) (now («patch_header» .entry)) «patch_entry») ⌝ }
+    ensures memory { λ _. ⌜ now («base_memory» .exit) ≡ memoryAfterIn form base (lent (now («base_memory» .entry)) (now («base_marks» .entry)) (now («base_header» .entry)) «base_entry») (lent (now («patch_memory» .entry)) (now («patch_marks» .entry)) (now («patch_header» .entry)) «patch_entry») ⌝ }
+    ensures marks { λ _. ⌜ now («base_marks» .exit) ≡ marksAfterIn form base (lent (now («base_memory» .entry)) (now («base_marks» .entry)) (now («base_header» .entry)) «base_entry») (lent (now («patch_memory» .entry)) (now («patch_marks» .entry)) (now («patch_header» .entry)) «patch_entry») ⌝ }
+{
+    let long = is_long(base_header, patch_header);
+    let refusal = overlay::first_row(
+        form,
+        base,
+        base_memory,
+        base_marks,
+        patch_memory,
+        patch_marks,
+        long,
+    );
+    if refusal.reason != 0 {
+        return refused(refusal);
+    }
+    marks::lay(base_memory, patch_memory, form, patch_marks);
+    marks::join(base_marks, patch_marks);
+    let header = merged_header(base_header, patch_header);
+    let entry = merged_entry(base_entry, patch_entry);
+    Merged {
+        refusal,
+        header,
+        entry,
+    }
+}
+
+// Merges images with a mark byte a cell.
 pub fn merge(
     base: u32,
     base_memory: &mut [u8],
@@ -74,25 +117,16 @@ pub fn merge(
     ensures memory { λ _. ⌜ now («base_memory» .exit) ≡ memoryAfter base (lent (now («base_memory» .entry)) (now («base_marks» .entry)) (now («base_header» .entry)) «base_entry») (lent (now («patch_memory» .entry)) (now («patch_marks» .entry)) (now («patch_header» .entry)) «patch_entry») ⌝ }
     ensures marks { λ _. ⌜ now («base_marks» .exit) ≡ marksAfter base (lent (now («base_memory» .entry)) (now («base_marks» .entry)) (now («base_header» .entry)) «base_entry») (lent (now («patch_memory» .entry)) (now («patch_marks» .entry)) (now («patch_header» .entry)) «patch_entry») ⌝ }
 {
-    let long = is_long(base_header, patch_header);
-    let refusal = overlay::first_row(
+    merge_as(
+        Form::Bytes,
         base,
         base_memory,
         base_marks,
+        base_header,
+        base_entry,
         patch_memory,
         patch_marks,
-        long,
-    );
-    if refusal.reason != 0 {
-        return refused(refusal);
-    }
-    marks::lay(base_memory, patch_memory, Form::Bytes, patch_marks);
-    marks::join(base_marks, patch_marks);
-    let header = merged_header(base_header, patch_header);
-    let entry = merged_entry(base_entry, patch_entry);
-    Merged {
-        refusal,
-        header,
-        entry,
-    }
+        patch_header,
+        patch_entry,
+    )
 }

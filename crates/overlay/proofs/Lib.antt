@@ -6,4 +6,6 @@ pub mod InsideLaws
 pub mod Facts
 pub mod Walking
 pub mod LeaveLaws
+pub mod FormLaws
+pub mod Agreement
 pub mod Examples

@@ -8,6 +8,8 @@ use mathlib.Core.List.{List, [], _∷_, _++_, append-assoc}
 use lib.ListN.{length, take, drop, replicate, set, length-append, drop-of-length-le}
 use lib.Seq.{take-all, take-at, set-at}
 use Rattle.window.specs.declared.Refusal.{Refusal}
+use Rattle.marks.specs.declared.Form.{Form}
+use Rattle.marks.specs.Forms.{Tidy}
 use Rattle.text.specs.Lines.{front}
 use Rattle.srec.specs.Lines.{isEnd}
 use Rattle.parts.specs.Parts.{Known, Going, Stage, stage, stopped, Turn, lineTurn, afterTurn, counted, fed}
@@ -17,10 +19,10 @@ use Rattle.parts.specs.Stretches.{fresh, keptAll}
 use Rattle.intake.specs.declared.Tally.{Tally}
 use Rattle.intake.specs.declared.Turn.{Turn as Taken}
 use Rattle.intake.specs.declared.Turn.the-variants.{Refused, Next}
-use Rattle.intake.specs.Tallies.{knownOf, Took}
+use Rattle.intake.specs.Tallies.{knownOf, Took, TidyTurn}
 use Rattle.part_lines.specs.declared.Rest.{Rest}
 use Rattle.part_lines.specs.declared.Rest.the-variants.{From, Refused as RestRefused}
-use Rattle.part_lines.specs.Rests.{behind, turnAs}
+use Rattle.part_lines.specs.Rests.{behind, TidyRest, turnAs}
 use Rattle.parts.proofs.GrowthLaws.{TurnKeeps, line-keeps}
 use Rattle.parts.proofs.SoundLaws.{fed-halted}
 use Rattle.parts.proofs.StretchLaws.{fed-line}
@@ -36,6 +38,18 @@ module _ (t : Turn) (r : Taken) (header memory marks memory₀ : List ℕ) (k : 
   -- or the load goes on
   pub took-next : (y : Tally) → r ≡ Next y → t ≡ next (knownOf y header) memory marks
   took-next y e = subst (λ (x : Taken). Took t x header memory marks memory₀) e k
+
+-- then its marks are tidy
+pub turn-tidy : (form : Form) (n : ℕ) (r : Taken) (marks : List ℕ) → TidyTurn form n r marks → (y : Tally) → r ≡ Next y → Tidy form n marks
+turn-tidy form n r marks t y e = subst (λ (x : Taken). TidyTurn form n x marks) e t
+
+-- so are those behind the lines of a part that were not refused
+pub rest-tidy : (form : Form) (n : ℕ) (r : Rest) (t : Taken) (marks : List ℕ) → t ≡ turnAs r → TidyRest form n r marks → TidyTurn form n t marks
+rest-tidy form n r t marks e h = subst (λ (x : Taken). TidyTurn form n x marks) (sym e) (go r h)
+  where
+    go : (r : Rest) → TidyRest form n r marks → TidyTurn form n (turnAs r) marks
+    go (RestRefused f) h = tt
+    go (From from y) h = h
 
 -- a refused load clears the marks, whatever they were: only their number counts
 pub stopped-as : (w : Stage) (f : Refusal) (memory memory′ marks marks′ : List ℕ) → w ≡ stopped f memory marks → memory′ ≡ memory

@@ -3,6 +3,8 @@ use mathlib.Core.Path.{_≡_}
 use Prim.Native.Nat.{ℕ, _+_, _^_, _≤_, _<_}
 use mathlib.Core.List.{List}
 use lib.ListN.{length, drop}
+use Rattle.marks.specs.declared.Form.{Form}
+use Rattle.marks.specs.Forms.{Tidy}
 use Rattle.text.specs.Lines.{front}
 use Rattle.text.specs.declared.State.{State}
 use Rattle.srec.specs.Lines.{isEnd}
@@ -29,6 +31,11 @@ behind size total header part (From from t) memory marks =
 abbrev pub RestIn : List ℕ → Rest → Type 0
 RestIn part (Refused f) = 0 < f .reason
 RestIn part (From from t) = (from ≤ length part) × (front isEnd (drop from part) ≡ drop from part)
+
+-- the marks of n cells behind the lines have no spare bit set; a refusal leaves them free
+abbrev pub TidyRest : Form → ℕ → Rest → List ℕ → Type 0
+TidyRest form n (Refused f) marks = Unit {0}
+TidyRest form n (From from t) marks = Tidy form n marks
 
 -- the same without the characters that are left
 abbrev pub turnAs : Rest → Turn

@@ -2,6 +2,7 @@
 use formats::Format;
 use intake::Tally;
 use intake::Turn;
+use marks::Form;
 use text::Taken;
 use window::Refusal;
 ghost use mathlib.Core.Path.{_≡_};
@@ -14,9 +15,10 @@ ghost use Rattle.srec.specs.Lines.{isEnd};
 ghost use Rattle.parts.specs.Parts.{stage, lineTurn, fed};
 ghost use Rattle.parts.specs.Parts.Status.{going};
 ghost use Rattle.parts.specs.Stretches.{fresh};
-ghost use Rattle.intake.specs.Tallies.{knownOf, Took};
+ghost use Rattle.marks.specs.Forms.{flags, Tidy};
+ghost use Rattle.intake.specs.Tallies.{knownOf, Took, TidyTurn};
 ghost use Rattle.session.specs.Sessions.{visible};
-ghost use Rattle.part_lines.specs.Rests.{Few, behind, RestIn, turnAs};
+ghost use Rattle.part_lines.specs.Rests.{Few, behind, RestIn, TidyRest, turnAs};
 
 // What the lines of a part come to whose ends stand in it: a refusal; or where the characters behind the last line end begin, and the
 // records so far.
@@ -35,10 +37,11 @@ pub fn take_lines(
     tally: Tally,
     header: &mut [u8],
     memory: &mut [u8],
+    form: Form,
     marks: &mut [u8],
 ) -> Rest
-    requires { ⌜ (now table ≡ digitTable) × (first ≤ length (now part)) × (length (now memory) ≡ length (now marks)) × (length (now header) ≡ 252) × Few (tally .state) (total + first) (length (now part) - first) ⌝ }
-    ensures { λ r. ⌜ (fed base (stage (going (fresh (length (now (memory .entry))) (total + first) (knownOf tally (now (header .entry))))) (now (memory .entry)) (now (marks .entry))) (drop first (now (part .entry))) ≡ behind (length (now (memory .entry))) total (now (header .exit)) (now (part .entry)) r (now (memory .exit)) (now (marks .exit))) × RestIn (now (part .entry)) r ⌝ }
+    requires { ⌜ (now table ≡ digitTable) × (first ≤ length (now part)) × Tidy form (length (now memory)) (now marks) × (length (now header) ≡ 252) × Few (tally .state) (total + first) (length (now part) - first) ⌝ }
+    ensures { λ r. ⌜ (fed base (stage (going (fresh (length (now (memory .entry))) (total + first) (knownOf tally (now (header .entry))))) (now (memory .entry)) (flags form (length (now (memory .entry))) (now (marks .entry)))) (drop first (now (part .entry))) ≡ behind (length (now (memory .entry))) total (now (header .exit)) (now (part .entry)) r (now (memory .exit)) (flags form (length (now (memory .entry))) (now (marks .exit)))) × RestIn (now (part .entry)) r × TidyRest form (length (now (memory .entry))) r (now (marks .exit)) ⌝ }
 {
     let mut now = tally;
     let mut at = first;
@@ -58,6 +61,7 @@ pub fn take_lines(
             now,
             header,
             memory,
+            form,
             marks,
         );
         match turn {
@@ -92,10 +96,12 @@ pub fn close_line(
     tally: Tally,
     header: &mut [u8],
     memory: &mut [u8],
+    form: Form,
     marks: &mut [u8],
 ) -> Turn
-    requires { ⌜ (now table ≡ digitTable) × (length (now line) ≡ 516) × (length (now memory) ≡ length (now marks)) × (length (now header) ≡ 252) × Few (tally .state) place 516 × (front isEnd (now chars) ≡ now chars) ⌝ }
-    ensures { λ r. ⌜ Took (lineTurn base place (take 515 (map visible (take (min held 515) (now (line .entry))) ++ now (chars .entry))) (now (memory .entry)) (now (marks .entry)) (knownOf tally (now (header .entry)))) r (now (header .exit)) (now (memory .exit)) (now (marks .exit)) (now (memory .entry)) ⌝ }
+    requires { ⌜ (now table ≡ digitTable) × (length (now line) ≡ 516) × Tidy form (length (now memory)) (now marks) × (length (now header) ≡ 252) × Few (tally .state) place 516 × (front isEnd (now chars) ≡ now chars) ⌝ }
+    ensures { λ r. ⌜ Took (lineTurn base place (take 515 (map visible (take (min held 515) (now (line .entry))) ++ now (chars .entry))) (now (memory .entry)) (flags form (length (now (memory .entry))) (now (marks .entry))) (knownOf tally (now (header .entry)))) r (now (header .exit)) (now (memory .exit)) (flags form (length (now (memory .entry))) (now (marks .exit))) (now (memory .entry)) ⌝ }
+    ensures { λ r. ⌜ TidyTurn form (length (now (memory .entry))) r (now (marks .exit)) ⌝ }
 {
     let n = session::hold(line, held, chars);
     session::hide_ends(&mut line[..n]);
@@ -110,6 +116,7 @@ pub fn close_line(
         tally,
         header,
         memory,
+        form,
         marks,
     );
     turn_of(rest)

@@ -9,13 +9,11 @@ use mathlib.Core.Option.{Option, none, some}
 use lib.Dec.{eqb, lit<}
 use lib.ListN.{length, replicate, length-replicate}
 use borrow.Author.Tests.{eqb-true, eqb-false}
-use Rattle.lists.specs.Lists.{over}
 use Rattle.lists.proofs.TestLaws.{by-test}
-use Rattle.lists.proofs.OverLaws.{over-length, over-none}
 use Rattle.window.specs.declared.Entry.{Entry}
 use Rattle.window.specs.Plans.{row12}
 use Rattle.window.specs.Marks.{claimRow, claimed}
-use Rattle.window.proofs.FillLaws.{inside}
+use Rattle.window.proofs.MarkLaws.{granted-inside, over-window}
 use Rattle.text.specs.Scan.{State, Step}
 use Rattle.text.specs.Scan.Step.{refuse, skip, title, put, finish}
 use Rattle.text.proofs.FormatLaws.{IsRefusal, StepOk}
@@ -47,21 +45,6 @@ step-grows s chars = go (srec .step s chars) refl
     go (put a ds) e =
         ⊎-elim {C = length ds ≤ length chars} (λ r. absurd (subst IsRefusal e r)) (λ q. counting .roomy chars a ds (sym q ∙ e)) (lawful .says s chars)
     go (finish e) q = tt
-
--- ---- the buffers
-
--- a claim that is granted lies in the window, or has no cell
-pub granted-inside : (base : ℕ) (marks : List ℕ) (a n : ℕ) → claimRow base marks a n ≡ 0 → row12 base (length marks) a n ≡ false
-unfolding claimRow
-granted-inside base marks a n e =
-    by-test (row12 base (length marks) a n) (λ t. absurd (let z : _≡_ {A = ℕ} 12 0 = rw t at e in omega arith)) (λ t. t)
-
--- what lies in the window leaves a buffer its length
-over-window : (base a : ℕ) (l xs : List ℕ) → row12 base (length l) a (length xs) ≡ false → length (over l (a - base) xs) ≡ length l
-over-window base a l [] h = ap length (over-none l (a - base))
-over-window base a l (x ∷ xs) h =
-    let k : (base ≤ a) × (a + suc (length xs) ≤ base + length l) = inside base (length l) a (length xs) h in
-    over-length l (a - base) (x ∷ xs) (omega (arith, k .0, k .1))
 
 -- ---- a turn
 

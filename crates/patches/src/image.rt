@@ -62,7 +62,7 @@ fn bytes_in(table: &[u32; 256], digits: &[u8], bytes: &mut [u8]) -> usize
 }
 
 // The address that eight digits give; 0 for fewer.
-fn address_in(table: &[u32; 256], digits: &[u8]) -> u32
+pub fn address_in(table: &[u32; 256], digits: &[u8]) -> u32
     requires { ⌜ now table ≡ digitTable ⌝ }
 {
     if digits.len() < 8 {

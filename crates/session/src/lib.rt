@@ -1,6 +1,7 @@
 // The state of a load in parts between two calls: how it begins, keeps characters, is refused, and answers.
 use formats::Format;
 use intake::Tally;
+use marks::Form;
 use window::Header;
 use window::Loaded;
 use window::Refusal;
@@ -12,8 +13,10 @@ ghost use Rattle.window.specs.Windows.{windowOf};
 ghost use Rattle.text.specs.Lines.{front};
 ghost use Rattle.window.specs.Headers.{headerOf};
 ghost use Rattle.srec.specs.Lines.{isEnd};
-ghost use Rattle.parts.specs.Parts.{begun, possible, row1Later, answered};
+ghost use Rattle.parts.specs.Parts.{begun, possible, answered};
 ghost use Rattle.parts.specs.Parts.Status.{halted};
+ghost use Rattle.marks.specs.declared.Form.the-variants.{Bytes};
+ghost use Rattle.parts.specs.Forms.{begunIn, row1LaterIn};
 ghost use Rattle.parts.specs.Stretches.{fresh, keptAll};
 ghost use Rattle.intake.specs.Tallies.{knownOf};
 ghost use Rattle.session.specs.Sessions.{visible, goingOf, statusOf};
@@ -27,12 +30,13 @@ pub const HELD: usize = 515;
 // The header has no more bytes.
 const MOST_HEADER: usize = 252;
 
-// The state that a call gives out and the next one takes. Of a refused load, whose refusal has a reason other than 0, nothing but the
-// refusal counts. Otherwise `size` is the number of cells at begin, `total` that of the characters so far; `line` has the first
+// The state that a call gives out and the next one takes. `form` is the form in which marks are lent in each call. Of a refused load,
+// whose refusal has a reason other than 0, nothing but the refusal counts. Otherwise `size` is the number of cells at begin, `total` that of the characters so far; `line` has the first
 // `held` characters of the record that is not complete, at most 515, which begins at `place`, and room for a line end; `header` has the
 // first `tally.head` bytes of the header, at most 252. A line end among the held characters counts as NUL. What stands behind
 // those lengths, an entry before a terminator, and what the refusal has beside the reason 0 may be anything.
 pub struct Session {
+    pub form: Form,
     pub refusal: Refusal,
     pub size: usize,
     pub total: usize,
@@ -79,7 +83,7 @@ pub fn hide_ends(chars: &mut [u8])
 // The state with characters more, none of which ends a line.
 pub fn keep(session: Session, chars: &[u8]) -> Session
     requires { ⌜ (session .total + length (now chars) < 2 ^ 64) × (front isEnd (now chars) ≡ now chars) ⌝ }
-    ensures { λ r. ⌜ (r .refusal ≡ session .refusal) × (goingOf r ≡ keptAll (goingOf session) (now (chars .entry))) ⌝ }
+    ensures { λ r. ⌜ (r .refusal ≡ session .refusal) × (goingOf r ≡ keptAll (goingOf session) (now (chars .entry))) × (r .form ≡ session .form) ⌝ }
 {
     let mut s = session;
     let mut line = s.line;
@@ -92,7 +96,7 @@ pub fn keep(session: Session, chars: &[u8]) -> Session
 
 // The state where the next record begins, behind so many characters, with the records before it and their header.
 pub fn next_record(session: Session, total: usize, tally: Tally, header: [u8; 252]) -> Session
-    ensures { λ r. ⌜ (r .refusal ≡ session .refusal) × (goingOf r ≡ fresh (session .size) total (knownOf tally header)) ⌝ }
+    ensures { λ r. ⌜ (r .refusal ≡ session .refusal) × (goingOf r ≡ fresh (session .size) total (knownOf tally header)) × (r .form ≡ session .form) ⌝ }
 {
     let mut s = session;
     s.total = total;
@@ -132,9 +136,10 @@ fn is_possible(session: Session) -> bool
 
 // Row 1 in a later call: as at begin, or there are not as many cells as at begin, or no call gives out the numbers of this state.
 pub fn is_barred(session: Session, base: u32, memory: &[u8], marks: &[u8]) -> bool
-    ensures { λ r. ⌜ r ≡ row1Later (windowOf base (now (memory .entry)) (now (marks .entry))) (goingOf session) ⌝ }
+    ensures { λ r. ⌜ r ≡ row1LaterIn (session .form) (windowOf base (now (memory .entry)) (now (marks .entry))) (goingOf session) ⌝ }
 {
-    if !window::is_allowed(base, memory, marks) {
+    let form = session.form;
+    if !marks::is_allowed(form, base, memory, marks) {
         return true;
     }
     if memory.len() != session.size {
@@ -145,7 +150,7 @@ pub fn is_barred(session: Session, base: u32, memory: &[u8], marks: &[u8]) -> bo
 
 // A state that is refused.
 fn stop(session: Session, refusal: Refusal) -> Session
-    ensures { λ r. ⌜ r .refusal ≡ refusal ⌝ }
+    ensures { λ r. ⌜ (r .refusal ≡ refusal) × (r .form ≡ session .form) ⌝ }
 {
     let mut s = session;
     s.refusal = refusal;
@@ -157,19 +162,22 @@ pub fn halt(session: Session, refusal: Refusal, marks: &mut [u8]) -> Session
     requires { ⌜ 0 < refusal .reason ⌝ }
     ensures status { λ r. ⌜ statusOf r ≡ halted refusal ⌝ }
     ensures marks { λ _. ⌜ now (marks .exit) ≡ replicate (length (now (marks .entry))) 0 ⌝ }
+    ensures form { λ r. ⌜ r .form ≡ session .form ⌝ }
 {
     marks::clear(marks);
     stop(session, refusal)
 }
 
-// Begins a load in parts: row 1, and all marks are cleared, whatever they held.
-pub fn begin(base: u32, memory: &[u8], marks: &mut [u8]) -> Session
-    ensures status { λ r. ⌜ statusOf r ≡ begun (windowOf base (now (memory .entry)) (now (marks .entry))) .status ⌝ }
-    ensures marks { λ _. ⌜ now (marks .exit) ≡ begun (windowOf base (now (memory .entry)) (now (marks .entry))) .marks ⌝ }
+// Begins a load in parts, with marks stored in the form that is told: row 1, and all marks are cleared, whatever they held.
+pub fn begin_as(form: Form, base: u32, memory: &[u8], marks: &mut [u8]) -> Session
+    ensures status { λ r. ⌜ statusOf r ≡ begunIn form (windowOf base (now (memory .entry)) (now (marks .entry))) .status ⌝ }
+    ensures marks { λ _. ⌜ now (marks .exit) ≡ begunIn form (windowOf base (now (memory .entry)) (now (marks .entry))) .marks ⌝ }
+    ensures form { λ r. ⌜ r .form ≡ form ⌝ }
 {
     let state = text::start();
     let tally = intake::going_on(state, 0);
     let fresh = Session {
+        form,
         refusal: window::refuse(0, 0, 0),
         size: memory.len(),
         total: 0,
@@ -179,11 +187,20 @@ pub fn begin(base: u32, memory: &[u8], marks: &mut [u8]) -> Session
         held: 0,
         line: [0u8; 516],
     };
-    if !window::is_allowed(base, memory, marks) {
+    if !marks::is_allowed(form, base, memory, marks) {
         return halt(fresh, window::refuse(1, 0, 0), marks);
     }
     marks::clear(marks);
     fresh
+}
+
+// Begins a load in parts with a mark byte a cell.
+pub fn begin(base: u32, memory: &[u8], marks: &mut [u8]) -> Session
+    ensures status { λ r. ⌜ statusOf r ≡ begun (windowOf base (now (memory .entry)) (now (marks .entry))) .status ⌝ }
+    ensures marks { λ _. ⌜ now (marks .exit) ≡ begun (windowOf base (now (memory .entry)) (now (marks .entry))) .marks ⌝ }
+    ensures form { λ r. ⌜ r .form ≡ Bytes ⌝ }
+{
+    begin_as(Form::Bytes, base, memory, marks)
 }
 
 // The header of so many bytes, zero behind them.
@@ -195,7 +212,7 @@ fn header_from(header: [u8; 252], len: usize) -> Header
 }
 
 // What a state behind its end answers: its refusal; row 14, where no terminator was read; or what its records said. Held characters
-// are not looked at, and row 1 is not tried.
+// are not looked at, and row 1 is not tried. `cells` is the sum of the data bytes, with packed marks too: feed `end` counts the ones.
 pub fn answer(session: Session) -> Loaded
     ensures { λ r. ⌜ r ≡ answered (statusOf session) ⌝ }
 {

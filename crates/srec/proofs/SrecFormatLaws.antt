@@ -8,12 +8,12 @@ use lib.ListN.{length}
 use borrow.Author.Tests.{le-ltb}
 use Rattle.window.specs.declared.Entry.{Entry}
 use Rattle.window.specs.declared.Entry.the-variants.{Absent, Present}
-use Rattle.window.specs.Windows.{Window, Allowed, row16}
+use Rattle.window.specs.Windows.{Window, Allowed}
 use Rattle.window.specs.Cells.{Cell, shown}
 use Rattle.window.specs.Plans.{isPresent, addressOf}
 use Rattle.window.specs.Plans.Plan.{done}
 use Rattle.text.specs.Runs.{runs}
-use Rattle.text.specs.Formats.{plan}
+use Rattle.text.specs.Formats.{Row, plan}
 use Rattle.text.proofs.RunLaws.{good-runs, cells-ok}
 use Rattle.text.proofs.FormatLaws.{Storable, Gives, summaryOf, NoRow, Lawful}
 use Rattle.srec.specs.Reading.{read}
@@ -58,10 +58,10 @@ canonical-gives cs h e m =
     subst (λ (x : Entry). Gives (plan srec (canonical cs h e)) (runs follow cs) (done (summaryOf (runs follow cs) h x))) (there e (m .entry .present))
     (text-gives (length (canonical cs h e)) (widthOf cs e) (runs follow cs) h (addressOf e) (writable cs h e m))
 
--- rows 15, 16 and 18 let pass what is storable, in an allowed window whose marks are 0 or 1
-no-row : (W : Window) (h : List ℕ) (e : Entry) → Allowed W → row16 (W .marks) ≡ false → Storable limits (shown W) h e → NoRow (rows W h e)
+-- rows 15 and 18 let pass what is storable
+no-row : (bad : Row) → bad .applies ≡ false → (W : Window) (h : List ℕ) (e : Entry) → Allowed W → Storable limits (shown W) h e → NoRow (rows bad W h e)
 unfolding row15 row18
-no-row W h e a odd m = (le-ltb 252 (length h) (m .header .short), (odd, (ap not (m .entry .present), tt)))
+no-row bad odd W h e a m = (le-ltb 252 (length h) (m .header .short), (odd, (ap not (m .entry .present), tt)))
 
 -- what every format has to show
 pub lawful : Lawful srec limits

@@ -3,7 +3,7 @@ use Prim.Native.Nat.{ℕ}
 use mathlib.Core.Bool.{Bool, not}
 use mathlib.Core.List.{List, [], _∷_}
 use Rattle.window.specs.declared.Entry.{Entry}
-use Rattle.window.specs.Windows.{Window, firstBadMark, row16}
+use Rattle.window.specs.Windows.{Window}
 use Rattle.window.specs.Headers.{row15}
 use Rattle.window.specs.Plans.{isPresent}
 use Rattle.text.specs.Formats.{Row, Format}
@@ -17,10 +17,9 @@ use Rattle.srec.specs.Canonical.{canonical}
 unfoldable pub row18 : Entry → Bool
 row18 entry = not (isPresent entry)
 
--- rows 15, 16, 18 in this order; 16 reports the first such index
-abbrev pub rows : Window → List ℕ → Entry → List Row
-rows W header entry =
-    rowOf (row15 header) 15 0 ∷ rowOf (row16 (W .marks)) 16 (firstBadMark (W .marks)) ∷ rowOf (row18 entry) 18 0 ∷ []
+-- rows 15, 16, 18 in this order
+abbrev pub rows : Row → Window → List ℕ → Entry → List Row
+rows bad W header entry = rowOf (row15 header) 15 0 ∷ bad ∷ rowOf (row18 entry) 18 0 ∷ []
 
 -- line ends, rows 3 to 8, 10 and 11 by reading and judging, the canonical text, and the writer's rows 15, 16 and 18
 abbrev pub srec : Format

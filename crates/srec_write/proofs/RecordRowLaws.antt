@@ -6,10 +6,10 @@ use mathlib.Core.List.{List}
 use lib.ListN.{length}
 use borrow.Author.Tests.{lt-ltb, le-ltb}
 use Rattle.window.specs.declared.Entry.the-variants.{Absent, Present}
-use Rattle.window.specs.Windows.{Window, row1, row16, firstBadMark}
+use Rattle.window.specs.Windows.{Window}
 use Rattle.window.specs.Cells.{shown}
 use Rattle.window.specs.Plans.{refusal}
-use Rattle.text.specs.Write.{textOf, row17, write}
+use Rattle.text.specs.Write.{textOf, row17}
 use Rattle.text.specs.Write.WriteOutcome.{declined, wrote}
 use Rattle.text.proofs.WriteLaws.{Call, outcome}
 use Rattle.srec.specs.Canonical.{widthFor}
@@ -28,26 +28,22 @@ pub need-is : (W : Window) (header : List ℕ) (e : ℕ) (size : Size) (width ne
 unfolding textOf
 need-is W header e size width need p q r = rw (r, q, p) (sym (length-canonical (shown W) header e))
 
-module _ (k : Call) (allowed : row1 (k .window) ≡ false) where
+module _ (k : Call) (allowed : k .unfit ≡ false) where
   -- row 15
   pub row-15 : 252 < length (k .header) → outcome srec k ≡ declined (refusal 15 0 0)
-  unfolding write row15
+  unfolding row15
   row-15 h = rw (allowed, lt-ltb 252 (length (k .header)) h)
 
   module _ (short : length (k .header) ≤ 252) where
-    -- the marks of the window
-    abbrev marks : List ℕ
-    marks = k .window .marks
-
     -- row 16, at its place
-    pub row-16 : (place : ℕ) → (row16 marks ≡ true) × (place ≡ firstBadMark marks) → outcome srec k ≡ declined (refusal 16 0 place)
-    unfolding write row15
+    pub row-16 : (place : ℕ) → (k .bad .applies ≡ true) × (k .bad .refusal ≡ refusal 16 0 place) → outcome srec k ≡ declined (refusal 16 0 place)
+    unfolding row15
     row-16 place q = rw (allowed, le-ltb 252 (length (k .header)) short, q .0, q .1)
 
-    module _ (none : row16 marks ≡ false) where
+    module _ (none : k .bad .applies ≡ false) where
       -- row 18
       pub row-18 : k .entry ≡ Absent → outcome srec k ≡ declined (refusal 18 0 0)
-      unfolding write row15 row18
+      unfolding row15 row18
       row-18 q = rw (allowed, le-ltb 252 (length (k .header)) short, none, q)
 
       module _ (e : ℕ) (there : k .entry ≡ Present e) where
@@ -57,10 +53,10 @@ module _ (k : Call) (allowed : row1 (k .window) ≡ false) where
 
         -- row 17, with the length needed
         pub row-17 : k .room < length text → outcome srec k ≡ declined (refusal 17 0 (length text))
-        unfolding write row15 row17 row18
+        unfolding row15 row17 row18
         row-17 h = rw (allowed, le-ltb 252 (length (k .header)) short, none, there, lt-ltb (k .room) (length text) h)
 
         -- no row applies
         pub is-written : length text ≤ k .room → outcome srec k ≡ wrote text
-        unfolding write row15 row17 row18
+        unfolding row15 row17 row18
         is-written h = rw (allowed, le-ltb 252 (length (k .header)) short, none, there, le-ltb (k .room) (length text) h)

@@ -13,6 +13,7 @@ ghost use Rattle.window.specs.Windows.{windowOf};
 ghost use Rattle.lists.specs.Lists.{over};
 ghost use Rattle.window.specs.Cells.{shown};
 ghost use Rattle.marks.specs.Forms.{markBytes, plain};
+ghost use Rattle.forms.specs.Calls.{writeIn};
 ghost use Rattle.text.specs.Runs.{runs};
 ghost use Rattle.text.specs.Write.{textOf, write, writeAnswer, outputAfter};
 ghost use Rattle.srec.specs.Canonical.{follow, largest, widthFor};
@@ -94,8 +95,10 @@ fn put_text(
     srec_encode::put_line(out, behind_count, kind, width, entry, &none);
 }
 
-// Writes the canonical text of a window at the start of the output, or says which row refuses that.
-pub fn write(
+// Writes the canonical text of a window, whose marks are stored in the form that is told, at the start of the output, or says which row
+// refuses that.
+pub fn write_as(
+    form: Form,
     base: u32,
     memory: &[u8],
     marks: &[u8],
@@ -103,16 +106,15 @@ pub fn write(
     entry: Entry,
     out: &mut [u8],
 ) -> Written
-    ensures answer { λ r. ⌜ r ≡ writeAnswer (write srec (windowOf base (now (memory .entry)) (now (marks .entry))) (now (header .entry)) entry (length (now (out .entry)))) ⌝ }
-    ensures output { λ _. ⌜ now (out .exit) ≡ outputAfter (now (out .entry)) (write srec (windowOf base (now (memory .entry)) (now (marks .entry))) (now (header .entry)) entry (length (now (out .entry)))) ⌝ }
+    ensures answer { λ r. ⌜ r ≡ writeAnswer (writeIn form srec (windowOf base (now (memory .entry)) (now (marks .entry))) (now (header .entry)) entry (length (now (out .entry)))) ⌝ }
+    ensures output { λ _. ⌜ now (out .exit) ≡ outputAfter (now (out .entry)) (writeIn form srec (windowOf base (now (memory .entry)) (now (marks .entry))) (now (header .entry)) entry (length (now (out .entry)))) ⌝ }
 {
-    if !window::is_allowed(base, memory, marks) {
+    if !marks::is_allowed(form, base, memory, marks) {
         return text::refused_write(1, 0);
     }
     if header.len() > MOST_HEADER {
         return text::refused_write(15, 0);
     }
-    let form = Form::Bytes;
     let cells = memory.len();
     let bad = marks::first_bad(form, marks, cells);
     if let Bad::At(place) = bad {
@@ -130,4 +132,19 @@ pub fn write(
     let count = size.records;
     put_text(out, base, memory, form, marks, header, start, count, width);
     text::accepted_write(need)
+}
+
+// Writes the canonical text of a window with a mark byte a cell.
+pub fn write(
+    base: u32,
+    memory: &[u8],
+    marks: &[u8],
+    header: &[u8],
+    entry: Entry,
+    out: &mut [u8],
+) -> Written
+    ensures answer { λ r. ⌜ r ≡ writeAnswer (write srec (windowOf base (now (memory .entry)) (now (marks .entry))) (now (header .entry)) entry (length (now (out .entry)))) ⌝ }
+    ensures output { λ _. ⌜ now (out .exit) ≡ outputAfter (now (out .entry)) (write srec (windowOf base (now (memory .entry)) (now (marks .entry))) (now (header .entry)) entry (length (now (out .entry)))) ⌝ }
+{
+    write_as(Form::Bytes, base, memory, marks, header, entry, out)
 }

@@ -8,12 +8,15 @@ use mathlib.Core.List.{List, [], _∷_, _++_}
 use lib.ListN.{length, take, drop, length-append, length-take}
 use Rattle.window.specs.declared.Refusal.{Refusal}
 use Rattle.window.specs.Plans.{refusal}
+use Rattle.marks.specs.declared.Form.{Form}
+use Rattle.marks.specs.Forms.{flags, markBytes}
 use Rattle.text.specs.Lines.{front}
 use Rattle.text.proofs.FindLaws.{front-take}
 use Rattle.srec.specs.Lines.{isEnd}
 use Rattle.parts.specs.Parts.{Going, Status, Stage, stage, stopped, Turn, lineTurn, fed, most, row20}
 use Rattle.parts.specs.Parts.Status.{going}
 use Rattle.parts.specs.Parts.Turn.{halt, next}
+use Rattle.parts.specs.Forms.{inForm}
 use Rattle.parts.specs.Stretches.{fresh, keptAll}
 use Rattle.parts.proofs.GrowthLaws.{TurnKeeps}
 use Rattle.parts.proofs.SoundLaws.{Sound, roomy}
@@ -22,19 +25,23 @@ use Rattle.intake.specs.declared.Tally.{Tally}
 use Rattle.intake.specs.Tallies.{knownOf}
 use Rattle.session.specs.declared.Session.{Session}
 use Rattle.session.specs.Sessions.{goingOf, statusOf}
-use Rattle.session.proofs.SessionLaws.{shows-going}
+use Rattle.session.proofs.SessionLaws.{shows-going, clear-marks}
 use Rattle.part_lines.specs.declared.Rest.{Rest}
-use Rattle.part_lines.specs.Rests.{Few, behind}
+use Rattle.part_lines.specs.declared.Rest.the-variants.{Refused, From}
+use Rattle.part_lines.specs.Rests.{Few, behind, TidyRest}
 use Rattle.part_lines.proofs.FreeLaws.{front-free}
 use Rattle.part_lines.proofs.TurnLaws.{lineHeld, turnOf, turn-halts, turn-goes, turn-keeps}
 use Rattle.take_part.proofs.AllowedLaws.{held-short, Allowed, call-sound, same-length}
-use Rattle.take_part.proofs.SettleLaws.{same-status, same-marks, own-memory}
 
 -- a stage that is known, part by part
 pub shows : {x y : Stage} {status : Status} {memory marks : List ℕ} → x ≡ y → status ≡ y .status → memory ≡ y .memory → marks ≡ y .marks
     → (status ≡ x .status) × ((memory ≡ x .memory) × (marks ≡ x .marks))
 shows e a m k =
     (a ∙ sym (ap (λ (w : Stage). w .status) e), (m ∙ sym (ap (λ (w : Stage). w .memory) e), k ∙ sym (ap (λ (w : Stage). w .marks) e)))
+
+-- with the form of a load, which stays
+pub with-form : {A B C D : Type 0} → A × (B × C) → D → A × (B × (C × D))
+with-form t f = (t .0, (t .1 .0, (t .1 .1, f)))
 
 -- what is known of it
 pub record Reading : Type 0 where
@@ -150,9 +157,6 @@ module _ (p : Reading) where
       keeps : TurnKeeps (length (lineHeld base memory marks g short part ends-in)) (g .known) memory marks (next (knownOf y header′) memory′ marks′)
       keeps = turn-keeps base memory marks g short part ends-in (same-length (p .call)) (next (knownOf y header′) memory′ marks′) (turn-is ∙ h)
 
-      pub next-same : length memory′ ≡ length marks′
-      next-same = keeps .memory-long ∙ same-length (p .call) ∙ sym (keeps .marks-long)
-
       -- its numbers are small
       pub next-few : Few (y .state) (s .total + (first + 1)) (length part - (first + 1))
       next-few =
@@ -177,9 +181,14 @@ module _ (p : Reading) where
           ∙ q ∙ ap (λ (n : ℕ). behind n (s .total) header″ part r memory″ marks″) size
 
 -- the stage behind the lines, as `settle` shows it
-pub settled : (w : Stage) (size total : ℕ) (header part : List ℕ) (r : Rest) (memory marks : List ℕ) → w ≡ behind size total header part r memory marks
+pub settled : (form : Form) (n : ℕ) (w : Stage) (size total : ℕ) (header part : List ℕ) (r : Rest) (memory marks : List ℕ)
+    → w ≡ behind size total header part r memory (flags form n marks) → length marks ≡ markBytes form n → TidyRest form n r marks
     → (x : Status) (marks′ : List ℕ) → x ≡ behind size total header part r [] marks .status → marks′ ≡ behind size total header part r [] marks .marks
-    → (x ≡ w .status) × ((memory ≡ w .memory) × (marks′ ≡ w .marks))
-settled w size total header part r memory marks e x marks′ a k =
-    shows e (a ∙ same-status size total header part marks r memory) (own-memory size total header part marks r memory)
-    (k ∙ same-marks size total header part marks r memory)
+    → (x ≡ inForm form w .status) × ((memory ≡ inForm form w .memory) × (marks′ ≡ inForm form w .marks))
+settled form n w size total header part r memory marks e l t x marks′ a k = go r e t a k
+  where
+    go : (r : Rest) → w ≡ behind size total header part r memory (flags form n marks) → TidyRest form n r marks
+        → x ≡ behind size total header part r [] marks .status → marks′ ≡ behind size total header part r [] marks .marks
+        → (x ≡ inForm form w .status) × ((memory ≡ inForm form w .memory) × (marks′ ≡ inForm form w .marks))
+    go (Refused f) e t a k = shows (ap (inForm form) e) a refl (k ∙ sym (clear-marks form n marks l))
+    go (From from y) e t a k = shows (ap (inForm form) e) a refl (k ∙ t .1)

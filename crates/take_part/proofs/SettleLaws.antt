@@ -43,25 +43,3 @@ module _ (size total : ℕ) (header part marks : List ℕ) (r : Rest) where
             ∙ ap going (q ∙ ap (keptAll (fresh size (total + from) (knownOf t header))) (rest from part)),
         refl,
       )
-
-  -- memory is not settled
-  pub same-status : (memory : List ℕ) → behind size total header part r [] marks .status ≡ behind size total header part r memory marks .status
-  same-status memory = go r
-    where
-      go : (r : Rest) → behind size total header part r [] marks .status ≡ behind size total header part r memory marks .status
-      go (Refused f) = refl
-      go (From from t) = refl
-
-  pub same-marks : (memory : List ℕ) → behind size total header part r [] marks .marks ≡ behind size total header part r memory marks .marks
-  same-marks memory = go r
-    where
-      go : (r : Rest) → behind size total header part r [] marks .marks ≡ behind size total header part r memory marks .marks
-      go (Refused f) = refl
-      go (From from t) = refl
-
-  pub own-memory : (memory : List ℕ) → memory ≡ behind size total header part r memory marks .memory
-  own-memory memory = go r
-    where
-      go : (r : Rest) → memory ≡ behind size total header part r memory marks .memory
-      go (Refused f) = refl
-      go (From from t) = refl

@@ -10,16 +10,18 @@ ghost use lib.ListN.{length};
 ghost use Rattle.window.specs.Windows.{windowOf};
 ghost use Rattle.text.specs.Lines.{front};
 ghost use Rattle.srec.specs.Lines.{isEnd};
-ghost use Rattle.parts.specs.Parts.{stage, fed, row1Later, row20};
-ghost use Rattle.parts.specs.Parts.Status.{going};
+ghost use Rattle.marks.specs.Forms.{flags, Tidy};
+ghost use Rattle.parts.specs.Parts.{row1Later, row20};
 ghost use Rattle.session.specs.Sessions.{goingOf, statusOf};
 ghost use Rattle.part_lines.specs.Rests.{behind, RestIn};
+ghost use Rattle.take_part.specs.Reads.{readIn};
 
 // The state behind the lines of a part whose ends stand in it: the characters behind them are held.
 fn settle(session: Session, header: [u8; 252], rest: Rest, part: &[u8], marks: &mut [u8]) -> Session
     requires { ⌜ (session .refusal .reason ≡ 0) × (session .total + length (now part) < 2 ^ 64) × RestIn (now part) rest ⌝ }
     ensures status { λ r. ⌜ statusOf r ≡ behind (session .size) (session .total) header (now (part .entry)) rest [] (now (marks .entry)) .status ⌝ }
     ensures marks { λ _. ⌜ now (marks .exit) ≡ behind (session .size) (session .total) header (now (part .entry)) rest [] (now (marks .entry)) .marks ⌝ }
+    ensures form { λ r. ⌜ r .form ≡ session .form ⌝ }
 {
     match rest {
         Rest::Refused(refusal) => return session::halt(session, refusal, marks),
@@ -39,12 +41,14 @@ pub fn take_fresh(
     marks: &mut [u8],
 ) -> Session
     requires { ⌜ (session .refusal .reason ≡ 0) × (session .place ≡ session .total) ⌝ }
-    requires { ⌜ (row1Later (windowOf base (now memory) (now marks)) (goingOf session) ≡ false) × (row20 (goingOf session) (now part) ≡ false) ⌝ }
-    ensures status { λ r. ⌜ statusOf r ≡ fed base (stage (going (goingOf session)) (now (memory .entry)) (now (marks .entry))) (now (part .entry)) .status ⌝ }
-    ensures memory { λ _. ⌜ now (memory .exit) ≡ fed base (stage (going (goingOf session)) (now (memory .entry)) (now (marks .entry))) (now (part .entry)) .memory ⌝ }
-    ensures marks { λ _. ⌜ now (marks .exit) ≡ fed base (stage (going (goingOf session)) (now (memory .entry)) (now (marks .entry))) (now (part .entry)) .marks ⌝ }
+    requires { ⌜ (row1Later (windowOf base (now memory) (flags (session .form) (length (now memory)) (now marks))) (goingOf session) ≡ false) × (row20 (goingOf session) (now part) ≡ false) × Tidy (session .form) (length (now memory)) (now marks) ⌝ }
+    ensures status { λ r. ⌜ statusOf r ≡ readIn session base (now (memory .entry)) (now (marks .entry)) (now (part .entry)) .status ⌝ }
+    ensures memory { λ _. ⌜ now (memory .exit) ≡ readIn session base (now (memory .entry)) (now (marks .entry)) (now (part .entry)) .memory ⌝ }
+    ensures marks { λ _. ⌜ now (marks .exit) ≡ readIn session base (now (memory .entry)) (now (marks .entry)) (now (part .entry)) .marks ⌝ }
+    ensures form { λ r. ⌜ r .form ≡ session .form ⌝ }
 {
     let table = hex::digit_table();
+    let form = session.form;
     let tally = session.tally;
     let mut header = session.header;
     let rest = part_lines::take_lines(
@@ -56,6 +60,7 @@ pub fn take_fresh(
         tally,
         &mut header,
         memory,
+        form,
         marks,
     );
     settle(session, header, rest, part, marks)
@@ -71,12 +76,14 @@ pub fn take_cut(
     marks: &mut [u8],
 ) -> Session
     requires { ⌜ (session .refusal .reason ≡ 0) × (first ≡ length (front isEnd (now part))) × (first < length (now part)) ⌝ }
-    requires { ⌜ (row1Later (windowOf base (now memory) (now marks)) (goingOf session) ≡ false) × (row20 (goingOf session) (now part) ≡ false) ⌝ }
-    ensures status { λ r. ⌜ statusOf r ≡ fed base (stage (going (goingOf session)) (now (memory .entry)) (now (marks .entry))) (now (part .entry)) .status ⌝ }
-    ensures memory { λ _. ⌜ now (memory .exit) ≡ fed base (stage (going (goingOf session)) (now (memory .entry)) (now (marks .entry))) (now (part .entry)) .memory ⌝ }
-    ensures marks { λ _. ⌜ now (marks .exit) ≡ fed base (stage (going (goingOf session)) (now (memory .entry)) (now (marks .entry))) (now (part .entry)) .marks ⌝ }
+    requires { ⌜ (row1Later (windowOf base (now memory) (flags (session .form) (length (now memory)) (now marks))) (goingOf session) ≡ false) × (row20 (goingOf session) (now part) ≡ false) × Tidy (session .form) (length (now memory)) (now marks) ⌝ }
+    ensures status { λ r. ⌜ statusOf r ≡ readIn session base (now (memory .entry)) (now (marks .entry)) (now (part .entry)) .status ⌝ }
+    ensures memory { λ _. ⌜ now (memory .exit) ≡ readIn session base (now (memory .entry)) (now (marks .entry)) (now (part .entry)) .memory ⌝ }
+    ensures marks { λ _. ⌜ now (marks .exit) ≡ readIn session base (now (memory .entry)) (now (marks .entry)) (now (part .entry)) .marks ⌝ }
+    ensures form { λ r. ⌜ r .form ≡ session .form ⌝ }
 {
     let table = hex::digit_table();
+    let form = session.form;
     let total = session.total;
     let tally = session.tally;
     let mut header = session.header;
@@ -91,6 +98,7 @@ pub fn take_cut(
         tally,
         &mut header,
         memory,
+        form,
         marks,
     );
     match turn {
@@ -105,6 +113,7 @@ pub fn take_cut(
                 next,
                 &mut header,
                 memory,
+                form,
                 marks,
             );
             return settle(session, header, rest, part, marks);

@@ -10,7 +10,7 @@ use lib.ListN.{length}
 use borrow.Author.Tests.{le-ltb}
 use Rattle.window.specs.declared.Entry.{Entry}
 use Rattle.window.specs.declared.Entry.the-variants.{Absent, Present}
-use Rattle.window.specs.Windows.{Window, Allowed, row16}
+use Rattle.window.specs.Windows.{Window, Allowed}
 use Rattle.window.specs.Images.{image}
 use Rattle.window.specs.Cells.{Cell, Run, cells, shown}
 use Rattle.window.specs.Plans.{isPresent}
@@ -18,7 +18,7 @@ use Rattle.window.specs.Plans.Plan.{done}
 use Rattle.window.proofs.CellLaws.{In}
 use Rattle.window.proofs.RowLaws.{allowed-inv}
 use Rattle.text.specs.Runs.{runs}
-use Rattle.text.specs.Formats.{plan}
+use Rattle.text.specs.Formats.{Row, plan}
 use Rattle.text.proofs.RunLaws.{AllGood, good-runs, cells-ok, rising-runs, longest-runs}
 use Rattle.text.proofs.FormatLaws.{Storable, Gives, summaryOf, NoRow, Lawful}
 use Rattle.tape.specs.declared.Edition.{Edition}
@@ -65,9 +65,9 @@ none-above a (b ∷ memory) (suc m ∷ marks) e h =
     (ap suc (none-above (suc a) memory marks (omega arith) (λ A B k. h A B (inr k))))
 
 -- rows 16, 19 and 11 let pass what is storable
-no-row : (W : Window) (h : List ℕ) (e : Entry) → Allowed W → row16 (W .marks) ≡ false → Storable limits (shown W) h e → NoRow (rows W h e)
+no-row : (bad : Row) → bad .applies ≡ false → (W : Window) (h : List ℕ) (e : Entry) → Allowed W → Storable limits (shown W) h e → NoRow (rows bad W h e)
 unfolding row19 row11Marks
-no-row W h e a odd m =
+no-row bad odd W h e a m =
     let n : firstAbove (W .base) (W .marks) ≡ length (W .marks)
     = none-above (W .base) (W .memory) (W .marks) (allowed-inv W a .0) (λ A B k. m .small A B k .0) in
     (odd, (rw (le-ltb 0 (length h) (m .header .short), m .entry .present) refl, (rw n (le-ltb (length (W .marks)) (length (W .marks)) (omega arith)), tt)))

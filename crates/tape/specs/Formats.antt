@@ -5,7 +5,7 @@ use mathlib.Core.List.{List, [], _∷_}
 use lib.Dec.{ltb, eqb}
 use lib.ListN.{length}
 use Rattle.window.specs.declared.Entry.{Entry}
-use Rattle.window.specs.Windows.{Window, firstBadMark, row16}
+use Rattle.window.specs.Windows.{Window}
 use Rattle.window.specs.Plans.{isPresent}
 use Rattle.text.specs.Formats.{Row, Format}
 use Rattle.text.specs.Write.{rowOf}
@@ -28,11 +28,9 @@ firstAbove a (m ∷ ms) = let r = suc (firstAbove (suc a) ms) in cond (not (eqb 
 unfoldable pub row11Marks : Window → Bool
 row11Marks W = ltb (firstAbove (W .base) (W .marks)) (length (W .marks))
 
--- rows 16, 19 and 11 in this order; 16 and 11 report the first such index
-abbrev pub rows : Window → List ℕ → Entry → List Row
-rows W header entry =
-    rowOf (row16 (W .marks)) 16 (firstBadMark (W .marks)) ∷ rowOf (row19 header entry) 19 0
-    ∷ rowOf (row11Marks W) 11 (firstAbove (W .base) (W .marks)) ∷ []
+-- rows 16, 19 and 11 in this order; 11 reports the first such index
+abbrev pub rows : Row → Window → List ℕ → Entry → List Row
+rows bad W header entry = bad ∷ rowOf (row19 header entry) 19 0 ∷ rowOf (row11Marks W) 11 (firstAbove (W .base) (W .marks)) ∷ []
 
 -- separators, rows 3 to 7, 10 and 11 by reading and judging, the canonical tape, and the writer's rows 16, 19 and 11
 abbrev pub tape : Edition → Format

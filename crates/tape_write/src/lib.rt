@@ -13,6 +13,7 @@ ghost use Rattle.lists.specs.Lists.{over};
 ghost use Rattle.window.specs.Windows.{windowOf};
 ghost use Rattle.window.specs.Cells.{shown};
 ghost use Rattle.marks.specs.Forms.{flags, markBytes, plain};
+ghost use Rattle.forms.specs.Calls.{writeIn};
 ghost use Rattle.text.specs.Runs.{runs};
 ghost use Rattle.text.specs.Write.{write, writeAnswer, outputAfter};
 ghost use Rattle.tape.specs.Canonical.{follow, canonical};
@@ -98,9 +99,11 @@ fn put_tape(
     tape_encode::put_line(edition, out, behind_data, records as u32, &none);
 }
 
-// Writes the canonical tape of a window at the start of the output, or says which row refuses that.
-pub fn write(
+// Writes the canonical tape of a window, whose marks are stored in the form that is told, at the start of the output, or says which row
+// refuses that.
+pub fn write_as(
     edition: Edition,
+    form: Form,
     base: u32,
     memory: &[u8],
     marks: &[u8],
@@ -108,13 +111,12 @@ pub fn write(
     entry: Entry,
     out: &mut [u8],
 ) -> Written
-    ensures answer { λ r. ⌜ r ≡ writeAnswer (write (tape edition) (windowOf base (now (memory .entry)) (now (marks .entry))) (now (header .entry)) entry (length (now (out .entry)))) ⌝ }
-    ensures output { λ _. ⌜ now (out .exit) ≡ outputAfter (now (out .entry)) (write (tape edition) (windowOf base (now (memory .entry)) (now (marks .entry))) (now (header .entry)) entry (length (now (out .entry)))) ⌝ }
+    ensures answer { λ r. ⌜ r ≡ writeAnswer (writeIn form (tape edition) (windowOf base (now (memory .entry)) (now (marks .entry))) (now (header .entry)) entry (length (now (out .entry)))) ⌝ }
+    ensures output { λ _. ⌜ now (out .exit) ≡ outputAfter (now (out .entry)) (writeIn form (tape edition) (windowOf base (now (memory .entry)) (now (marks .entry))) (now (header .entry)) entry (length (now (out .entry)))) ⌝ }
 {
-    if !window::is_allowed(base, memory, marks) {
+    if !marks::is_allowed(form, base, memory, marks) {
         return text::refused_write(1, 0);
     }
-    let form = Form::Bytes;
     let cells = memory.len();
     let bad = marks::first_bad(form, marks, cells);
     if let Bad::At(place) = bad {
@@ -134,4 +136,29 @@ pub fn write(
     }
     put_tape(edition, out, base, memory, form, marks, size.records);
     text::accepted_write(need)
+}
+
+// Writes the canonical tape of a window with a mark byte a cell.
+pub fn write(
+    edition: Edition,
+    base: u32,
+    memory: &[u8],
+    marks: &[u8],
+    header: &[u8],
+    entry: Entry,
+    out: &mut [u8],
+) -> Written
+    ensures answer { λ r. ⌜ r ≡ writeAnswer (write (tape edition) (windowOf base (now (memory .entry)) (now (marks .entry))) (now (header .entry)) entry (length (now (out .entry)))) ⌝ }
+    ensures output { λ _. ⌜ now (out .exit) ≡ outputAfter (now (out .entry)) (write (tape edition) (windowOf base (now (memory .entry)) (now (marks .entry))) (now (header .entry)) entry (length (now (out .entry)))) ⌝ }
+{
+    write_as(
+        edition,
+        Form::Bytes,
+        base,
+        memory,
+        marks,
+        header,
+        entry,
+        out,
+    )
 }

@@ -8,7 +8,7 @@ use mathlib.Core.Logic.{_⊎_, inl, inr}
 use lib.Dec.{T, lit<}
 use lib.ListN.{length}
 use Rattle.window.specs.declared.Entry.{Entry}
-use Rattle.window.specs.Windows.{Window, Allowed, row16}
+use Rattle.window.specs.Windows.{Window, Allowed}
 use Rattle.window.specs.Images.{Image}
 use Rattle.window.specs.Cells.{Cell, Run, shown, total}
 use Rattle.window.specs.Plans.{Summary, isPresent, addressOf, Plan, Outcome, row12, row13, filled, placed}
@@ -112,7 +112,7 @@ pub record Lawful (F : Format) (L : Limits) : Type 0 where
   pub gives : (cs : List Cell) (h : List ℕ) (e : Entry) → Storable L cs h e
       → Gives (plan F (F .canonical cs h e)) (runs (L .follow) cs) (done (summaryOf (runs (L .follow) cs) h e))
   -- the writer's rows let pass what can be stored
-  pub passes : (W : Window) (h : List ℕ) (e : Entry) → Allowed W → row16 (W .marks) ≡ false → Storable L (shown W) h e → NoRow (F .rows W h e)
+  pub passes : (bad : Row) → bad .applies ≡ false → (W : Window) (h : List ℕ) (e : Entry) → Allowed W → Storable L (shown W) h e → NoRow (F .rows bad W h e)
 
 -- ---- bounds of any plan
 

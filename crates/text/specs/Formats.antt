@@ -26,8 +26,8 @@ pub record Format : Type 0 where
   pub part : List ℕ → Step
   -- the canonical text of cells by rising address, a header and an entry
   pub canonical : List Cell → List ℕ → Entry → List ℕ
-  -- the writer's rows behind row 1 and before row 17, in their order
-  pub rows : Window → List ℕ → Entry → List Row
+  -- the writer's rows behind row 1 and before row 17, in their order; row 16, which goes by how marks are stored, is given
+  pub rows : Row → Window → List ℕ → Entry → List Row
 
 -- what a text asks of a window
 unfoldable pub plan : Format → List ℕ → Plan

@@ -1,15 +1,10 @@
 // A window of lent memory: what is refused, and what a load and a write answer.
 ghost use mathlib.Core.Path.{_≡_};
-ghost use mathlib.Core.Bool.{not};
 ghost use mathlib.Core.List.{[]};
 ghost use Prim.Native.Nat.{_≤_};
 ghost use lib.ListN.{length};
-ghost use Rattle.window.specs.Windows.{windowOf, row1};
 ghost use Rattle.window.specs.Plans.{refusalWith, refusal};
 ghost use Rattle.window.specs.Headers.{headerOf};
-
-// Behind the last address.
-const TOP: usize = 1 << 32;
 
 // Why and where something is refused. The reason is the row's number in docs/FORMAT.md, 0 for none.
 // A load's ordinal is the number of a record, from 1; 0 for row 1, and for rows 14 and 20 how many records were read. Its
@@ -91,14 +86,4 @@ pub fn header_from(bytes: &[u8]) -> Header
         len: bytes.len(),
         bytes: clean,
     }
-}
-
-// Row 1 does not apply: there is a mark for each memory byte, and no cell behind the last address.
-pub fn is_allowed(base: u32, memory: &[u8], marks: &[u8]) -> bool
-    ensures { λ r. ⌜ r ≡ not (row1 (windowOf base (now (memory .entry)) (now (marks .entry)))) ⌝ }
-{
-    if marks.len() != memory.len() {
-        return false;
-    }
-    memory.len() <= TOP - base as usize
 }

@@ -1,12 +1,15 @@
 //! Whole answers, by the program `vectors` and by the second reading: record
 //! number, place, right checksum, header, entry and counts, which the C face
-//! does not give. Texts of both formats are drawn, and tapes of both editions.
+//! does not give. Texts of both formats are drawn, and tapes of both editions, some
+//! of them with packed marks, which are compared, too.
 
 use crate::format::{Format, FORMATS};
 use crate::program::{Batch, VECTORS};
 use crate::settings::Settings;
-use crate::tally::Tally;
+use crate::tally::{in_form, Tally};
+use second::cases::packed::{any_form, load_ways, LOAD_WAYS};
 use second::cases::LoadCase;
+use second::form::{Form, FORMS};
 use second::script::{Case, ROOM};
 
 /// A drawn load. An index says what its case is made for, by 4 and by 15: with 17
@@ -16,7 +19,8 @@ fn drawn_case(format: &Format, seed: u64, index: u64) -> Option<Case> {
     let wanted = format.wanted;
     let limits = if large { wanted.full } else { wanted.small };
     let name = format!("seed {seed}, index {index}");
-    named(format, name, wanted.load_case(seed, index, limits))
+    let case = named(format, name, wanted.load_case(seed, index, limits))?;
+    Some(case.with(any_form(seed, index)))
 }
 
 /// None if window and text cannot be handed over; marks of another length than
@@ -27,16 +31,47 @@ fn named(format: &Format, name: String, drawn: LoadCase) -> Option<Case> {
     fits.then_some(case)
 }
 
+/// How often each row came up in each form of marks, and what did in packed ones.
+struct Counts {
+    rows: [Tally<u32>; 2],
+    ways: Tally<&'static str>,
+}
+
+impl Counts {
+    fn of(format: &Format) -> Counts {
+        Counts {
+            rows: FORMS.map(|_| Tally::of(format.wanted.numbers.iter().copied())),
+            ways: Tally::of(LOAD_WAYS),
+        }
+    }
+
+    fn add(&mut self, case: &Case) {
+        let rows = FORMS.iter().zip(&mut self.rows);
+        let own = rows.filter(|(form, _)| **form == case.form);
+        own.for_each(|(_, rows)| rows.add(number(&case.answer())));
+        if case.form == Form::Packed {
+            load_ways(case)
+                .into_iter()
+                .for_each(|way| self.ways.add(way));
+        }
+    }
+
+    fn told(&self, name: &str) -> Result<String, String> {
+        let mut told = Vec::new();
+        for (form, rows) in FORMS.iter().zip(&self.rows) {
+            told.push(rows.told(&in_form(&format!("rows of {name}"), *form))?);
+        }
+        told.push(self.ways.told(&format!("packed marks of {name}"))?);
+        Ok(told.join("; "))
+    }
+}
+
 /// Takes in one more case, if there is one.
-fn add(
-    batch: &mut Batch<Case>,
-    case: Option<Case>,
-    numbers: &mut Tally<u32>,
-) -> Result<(), String> {
+fn add(batch: &mut Batch<Case>, case: Option<Case>, counts: &mut Counts) -> Result<(), String> {
     let Some(case) = case else {
         return Ok(());
     };
-    numbers.add(number(&case.answer()));
+    counts.add(&case);
     batch.add(case)
 }
 
@@ -44,28 +79,28 @@ fn add(
 /// tapes with about 256 lines; the program takes as many as its input holds.
 pub fn drawn(settings: &Settings) -> Result<String, String> {
     let seed = settings.seed;
-    let mut numbers = FORMATS.map(|format| Tally::of(format.wanted.numbers.iter().copied()));
+    let mut counts = FORMATS.map(Counts::of);
     let mut batch = Batch::of(VECTORS);
-    for (format, numbers) in FORMATS.iter().zip(&mut numbers) {
+    for (format, counts) in FORMATS.iter().zip(&mut counts) {
         for (number, drawn) in (format.numbered)(seed) {
             let name = format!("seed {seed}, {number} lines");
-            add(&mut batch, named(format, name, drawn), numbers)?;
+            let case = named(format, name, drawn);
+            let packed = case.clone().map(|case| case.with(Form::Packed));
+            add(&mut batch, case, counts)?;
+            add(&mut batch, packed, counts)?;
         }
     }
     for index in 0..settings.cases {
-        for (format, numbers) in FORMATS.iter().zip(&mut numbers) {
-            add(&mut batch, drawn_case(format, seed, index), numbers)?;
+        for (format, counts) in FORMATS.iter().zip(&mut counts) {
+            add(&mut batch, drawn_case(format, seed, index), counts)?;
         }
     }
     batch.run()?;
-    let mut report = format!("{} texts", batch.compared);
-    for (format, numbers) in FORMATS.iter().zip(&numbers) {
-        let name = format.name;
-        let numbers = numbers.complete();
-        let numbers = numbers.map_err(|error| format!("rows of {name}: {error}"))?;
-        report += &format!("; rows of {name}: {numbers}");
+    let mut report = vec![format!("{} texts", batch.compared)];
+    for (format, counts) in FORMATS.iter().zip(&counts) {
+        report.push(counts.told(format.name)?);
     }
-    Ok(report)
+    Ok(report.join("; "))
 }
 
 /// The refusal number: it starts the line behind the heading.

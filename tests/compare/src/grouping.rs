@@ -12,6 +12,7 @@ use crate::tally::Tally;
 use crate::walks::{read, Merge, Printed};
 use laws::{hold, KINDS};
 use second::cases::overlays::{group, settings, Group, MERGE_NUMBERS};
+use second::form::Form;
 use second::patches::{self, Command, Held, Side};
 use second::script::ROOM;
 
@@ -75,6 +76,7 @@ fn case(group: &Group, rows: &[Row]) -> Merges {
         }
     }
     Merges(patches::Case {
+        form: Form::Bytes,
         name: group.name.clone(),
         start: group.start,
         commands,
@@ -139,7 +141,7 @@ fn merged<const N: usize>(cases: &[Merges]) -> Result<(Vec<u8>, Vec<[Merge; N]>)
 fn read_merges<const N: usize>(answer: &[u8]) -> Option<[Merge; N]> {
     let merge = |thing| match thing {
         Printed::Merge(merge) => Some(merge),
-        Printed::Look(_) => None,
+        Printed::Look(_) | Printed::Write(_) => None,
     };
     let merges: Option<Vec<Merge>> = read(answer)?.into_iter().map(merge).collect();
     merges?.try_into().ok()

@@ -49,7 +49,7 @@ impl Case for second::patches::Case {
     }
 
     fn hold(&self, printed: &[u8]) -> Result<(), String> {
-        walks::hold(self.start, printed)
+        walks::hold(self.form, self.start, printed)
     }
 }
 

@@ -1,5 +1,6 @@
 //! How often each thing came up.
 
+use second::form::Form;
 use std::collections::{BTreeMap, BTreeSet};
 use std::fmt::{self, Debug, Display, Formatter};
 
@@ -52,5 +53,13 @@ impl<T: Ord + Debug> Display for Tally<T> {
             .map(|(thing, count)| format!("{thing:?}: {count}"))
             .collect();
         out.write_str(&counts.join(", "))
+    }
+}
+
+/// What is counted, in a form of marks.
+pub fn in_form(what: &str, form: Form) -> String {
+    match form {
+        Form::Bytes => what.to_string(),
+        Form::Packed => format!("{what}, packed"),
     }
 }

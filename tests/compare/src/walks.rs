@@ -1,9 +1,11 @@
-//! What must hold of the looks and merges of a case, by what the program `patches`
-//! printed alone.
+//! What must hold of the looks, merges and writes of a case, by what the program
+//! `patches` printed alone.
 //!
 //! Before a merge, every cell of the window is looked at.
 
+use second::form::Form;
 use second::overlay::Title;
+use second::packed;
 use second::patches::Held;
 use std::collections::BTreeMap;
 
@@ -20,9 +22,17 @@ pub struct Merge {
     pub left: Held,
 }
 
+/// A write, and the output behind it.
+pub struct Write {
+    pub number: u32,
+    length: usize,
+    out: Vec<u8>,
+}
+
 pub enum Printed {
     Look(Look),
     Merge(Merge),
+    Write(Write),
 }
 
 /// The looks by their addresses. A later one takes the place of an earlier.
@@ -36,6 +46,9 @@ pub fn read(printed: &[u8]) -> Option<Vec<Printed>> {
     while let Some(line) = lines.next() {
         all.push(if let Some(look) = line.strip_prefix("look ") {
             Printed::Look(read_look(look)?)
+        } else if let Some(write) = line.strip_prefix("write ") {
+            let out = lines.next()?.strip_prefix("output ")?;
+            Printed::Write(read_write(write, bytes(out)?)?)
         } else {
             let (number, rest) = line.strip_prefix("merge ")?.split_once(' ')?;
             let left = Held {
@@ -63,6 +76,17 @@ fn read_look(words: &str) -> Option<Look> {
     })
 }
 
+/// The refusal number stands first, and the length last.
+fn read_write(words: &str, out: Vec<u8>) -> Option<Write> {
+    let (number, rest) = words.split_once(' ')?;
+    let (_, length) = rest.split_once(" length ")?;
+    Some(Write {
+        number: number.parse().ok()?,
+        length: length.parse().ok()?,
+        out,
+    })
+}
+
 /// What stands behind the refusal. The zeros at the header's end are not printed.
 fn read_title(words: &str) -> Option<Title> {
     let (_, words) = words.split_once(" entry ")?;
@@ -85,23 +109,57 @@ fn bytes(digits: &str) -> Option<Vec<u8>> {
     pairs.map(byte).collect()
 }
 
-/// Holds the looks before each accepted merge to that merge.
-pub fn hold(start: u32, printed: &[u8]) -> Result<(), String> {
+/// Holds the looks before each accepted merge to that merge, and writes to the
+/// output that was before.
+pub fn hold(form: Form, start: u32, printed: &[u8]) -> Result<(), String> {
     let mut looks = Looks::new();
-    for thing in read(printed).ok_or("a line that no look or merge prints")? {
+    for thing in read(printed).ok_or("a line that no look, merge or write prints")? {
         match thing {
             Printed::Look(look) => drop(looks.insert(look.address, look)),
             Printed::Merge(merge) if merge.number == 0 => {
                 let start = u64::from(start);
-                let end = start + merge.left.memory.len() as u64;
+                let left = unpacked(form, merge.left)?;
+                let end = start + left.memory.len() as u64;
                 for address in start..end {
                     is_longest(&looks, address, end)
                         .map_err(|error| format!("the look at {address:08X} {error}"))?;
                 }
-                walk(&looks, start, &merge.left)?;
+                walk(&looks, start, &left)?;
             }
             Printed::Merge(_) => {}
+            Printed::Write(write) => keeps_output(&write)?,
         }
+    }
+    Ok(())
+}
+
+/// What an accepted merge left, with a byte for each mark. It left no spare bit.
+fn unpacked(form: Form, left: Held) -> Result<Held, String> {
+    if form == Form::Bytes {
+        return Ok(left);
+    }
+    let cells = left.memory.len();
+    if left.marks.len() != packed::length(cells) || packed::has_spare_bit(&left.marks, cells) {
+        return Err(format!("{:02X?} is left for {cells} cells", left.marks));
+    }
+    let marks = packed::unpack(&left.marks, cells);
+    Ok(Held { marks, ..left })
+}
+
+/// A refused write leaves the output as it was, and an accepted one what stands
+/// behind its text, which is not empty.
+fn keeps_output(write: &Write) -> Result<(), String> {
+    let Write {
+        number,
+        length,
+        out,
+    } = write;
+    let kept = out.get(*length..).unwrap_or_default();
+    if (*number == 0) != (*length > 0) || *length > out.len() {
+        return Err(format!("a write with number {number} has length {length}"));
+    }
+    if kept.iter().any(|&byte| byte != 0xEE) {
+        return Err("a write changes more than its text".to_string());
     }
     Ok(())
 }

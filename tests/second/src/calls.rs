@@ -1,8 +1,9 @@
 //! The form in which the program `calls` takes loads in parts and prints what
 //! they give: crates/calls/src/main.rt says which.
 
-use crate::parts::{begin, end, feed, Number, State};
-use crate::script::{answer_line, refusal_words, ROOM as INPUT};
+use crate::form::Form;
+use crate::parts::{Number, State};
+use crate::script::{answer_line, form_sign, hex, refusal_words, split_heading, ROOM as INPUT};
 use std::fmt::{self, Display, Formatter};
 
 /// The cells and the marks that `calls` can lend.
@@ -22,9 +23,9 @@ pub enum Call {
     Keep,
     /// Goes on with the state that was kept.
     Use,
-    /// Sets a mark.
+    /// Sets a mark, or a byte of packed ones.
     Mark(usize, u8),
-    /// Lends so many cells and marks from here on.
+    /// Lends so many cells and mark bytes from here on.
     Lend(usize, usize),
     Base(u32),
     /// Overwrites a number of the state.
@@ -102,6 +103,7 @@ fn parse_call(word: &str) -> Option<Call> {
 /// A text, the window that it is loaded into, and the calls.
 #[derive(Clone, Debug, PartialEq, Eq)]
 pub struct Case {
+    pub form: Form,
     pub name: String,
     pub base: u32,
     pub cells: usize,
@@ -111,7 +113,8 @@ pub struct Case {
 
 impl Case {
     fn heading(&self) -> String {
-        format!("@{:08X}:{:08X} {}\n", self.base, self.cells, self.name)
+        let sign = form_sign(self.form);
+        format!("@{:08X}:{:08X}{sign}{}\n", self.base, self.cells, self.name)
     }
 
     /// The case as `calls` reads it.
@@ -136,7 +139,7 @@ impl Case {
 
     /// Makes all calls.
     fn run(&self) -> Bench {
-        let mut bench = Bench::new(self.base, self.cells);
+        let mut bench = Bench::new(self.form, self.base, self.cells);
         let mut text = &self.text[..];
         for call in &self.calls {
             text = bench.call(*call, text);
@@ -168,10 +171,11 @@ fn parse_case(script: &[u8]) -> Option<Case> {
     let heading = std::str::from_utf8(lines.next()?).ok()?;
     let words = std::str::from_utf8(lines.next()?).ok()?;
     let text = lines.next()?.to_vec();
-    let (window, name) = heading.split_once(' ')?;
+    let (window, form, name) = split_heading(heading)?;
     let (base, cells) = window.split_once(':')?;
     let words = words.split(' ').filter(|word| !word.is_empty());
     let case = Case {
+        form,
         name: name.to_string(),
         base: u32::from_str_radix(base, 16).ok()?,
         cells: usize::from_str_radix(cells, 16).ok()?,
@@ -184,29 +188,32 @@ fn parse_case(script: &[u8]) -> Option<Case> {
 /// A load in parts, with all that is lent to it and what was printed.
 #[derive(Clone)]
 pub struct Bench {
+    pub form: Form,
     pub state: State,
     kept: State,
     pub base: u32,
     pub cells: usize,
     pub marks_lent: usize,
     memory: Vec<u8>,
-    marks: Vec<u8>,
+    pub marks: Vec<u8>,
     ends: Vec<u32>,
     printed: String,
 }
 
 impl Bench {
     /// A load that is begun, in buffers that were used before.
-    pub fn new(base: u32, cells: usize) -> Bench {
+    pub fn new(form: Form, base: u32, cells: usize) -> Bench {
         let mut memory: Vec<u8> = (0..ROOM).map(|index| 0xE0 + index as u8 % 16).collect();
         let mut marks = vec![7; ROOM];
-        let state = begin(base, &mut memory[..cells], &mut marks[..cells]);
+        let marks_lent = form.length(cells);
+        let state = form.begin(base, &mut memory[..cells], &mut marks[..marks_lent]);
         Bench {
+            form,
             kept: state.clone(),
             state,
             base,
             cells,
-            marks_lent: cells,
+            marks_lent,
             memory,
             marks,
             ends: Vec::new(),
@@ -214,12 +221,17 @@ impl Bench {
         }
     }
 
+    pub fn lent_marks(&self) -> &[u8] {
+        &self.marks[..self.marks_lent]
+    }
+
     /// Makes a call and gives the rest of the text.
     pub fn call<'a>(&mut self, call: Call, text: &'a [u8]) -> &'a [u8] {
         match call {
             Call::Begin => {
                 let memory = &mut self.memory[..self.cells];
-                self.state = begin(self.base, memory, &mut self.marks[..self.marks_lent]);
+                let marks = &mut self.marks[..self.marks_lent];
+                self.state = self.form.begin(self.base, memory, marks);
             }
             Call::Feed(number) => {
                 let (part, rest) = text.split_at(number.min(text.len()));
@@ -248,14 +260,14 @@ impl Bench {
         let state = self.state.clone();
         let memory = &mut self.memory[..self.cells];
         let marks = &mut self.marks[..self.marks_lent];
-        self.state = feed(state, part, self.base, memory, marks);
+        self.state = self.form.feed(state, part, self.base, memory, marks);
     }
 
     fn end(&mut self) {
         let state = self.state.clone();
         let memory = &mut self.memory[..self.cells];
         let marks = &mut self.marks[..self.marks_lent];
-        let (loaded, state) = end(state, self.base, memory, marks);
+        let (loaded, state) = self.form.end(state, self.base, memory, marks);
         self.state = state;
         self.ends.push(loaded.refusal.number);
         self.printed += &answer_line(&loaded);
@@ -265,7 +277,7 @@ impl Bench {
     /// The state, and all bytes that are lent.
     fn show(&mut self) {
         let memory = hex(&self.memory[..self.cells]);
-        let marks = hex(&self.marks[..self.marks_lent]);
+        let marks = hex(self.lent_marks());
         let state = state_words(&self.state);
         self.printed += &format!("state {state}\nmemory {memory}\nmarks {marks}\n");
     }
@@ -289,8 +301,4 @@ fn state_words(state: &State) -> String {
         state.number(Number::Head),
         entry.unwrap_or("none".to_string()),
     )
-}
-
-fn hex(bytes: &[u8]) -> String {
-    bytes.iter().map(|byte| format!("{byte:02X}")).collect()
 }

@@ -12,6 +12,7 @@ mod faulty;
 mod large;
 mod odd;
 pub mod overlays;
+pub mod packed;
 pub mod series;
 pub mod tapes;
 mod valid;

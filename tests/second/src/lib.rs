@@ -2,15 +2,18 @@
 //!
 //! `reading` is the loader and the writer in their plainest form, and `tape`
 //! those of MOS Technology tapes. `parts` is a load of S-records in parts, a
-//! program of its own. `overlay` lays a patch over a base image. `cases` draws
-//! texts, windows and images that reach every row of the refusal table, from the
-//! numbers of `random`. `script` has cases and answers in the form of the program
-//! `vectors`, `calls` in that of the program `calls`, and `patches` in that of the
-//! program `patches`.
+//! program of its own. `overlay` lays a patch over a base image. `packed` has all
+//! of these with one bit a cell for a mark, and `form` those of either form of
+//! marks. `cases` draws texts, windows and images that reach every row of the
+//! refusal table, from the numbers of `random`. `script` has cases and answers in
+//! the form of the program `vectors`, `calls` in that of the program `calls`, and
+//! `patches` in that of the program `patches`.
 
 pub mod calls;
 pub mod cases;
+pub mod form;
 pub mod overlay;
+pub mod packed;
 pub mod parts;
 pub mod patches;
 pub mod random;

@@ -1,18 +1,28 @@
 //! The form in which the program `patches` takes a base image and patches, looks
 //! and merges, and prints what they give.
 //!
-//! A case is a heading, `@`, the address at which both windows start, a space and
-//! a name, and then one command a line: a letter, and hex digits right behind it.
+//! A case is a heading, `@`, the address at which both windows start, a space, or
+//! `%` for packed marks, and a name, and then one command a line: a letter, and hex
+//! digits right behind it.
 
-use crate::overlay::{look, merge, Image, Title, Word};
-use crate::script::{refusal_words, ROOM as INPUT};
+use crate::form::Form;
+use crate::overlay::{Image, Title, Word};
+use crate::reading::Written;
+use crate::script::{form_sign, hex, refusal_words, split_heading, Format, ROOM as INPUT};
+use crate::tape::Edition;
 use std::fmt::{self, Display, Formatter};
 
-/// The most cells, and the most marks, that an image is given.
+/// The most cells, and the most mark bytes, that an image is given.
 pub const CELLS: usize = 64;
 
 /// The most header bytes that an image is given.
 pub const HEADER: usize = 300;
+
+/// The most bytes that an output has.
+pub const OUTPUT: usize = 512;
+
+/// What an output holds before a write.
+const OLD_OUTPUT: u8 = 0xEE;
 
 #[derive(Clone, Copy, Debug, PartialEq, Eq)]
 pub enum Side {
@@ -30,6 +40,20 @@ pub enum Command {
     /// Looks at each of these addresses.
     Look(Vec<u32>),
     Merge,
+    /// Writes the base image into an output of so many bytes, or as many as it has.
+    Write(Format, u32),
+}
+
+/// The letters of the formats that are written.
+const WRITES: [(char, Format); 3] = [
+    ('w', Format::Srec),
+    ('r', Format::Tape(Edition::Repeat)),
+    ('s', Format::Tape(Edition::Sum)),
+];
+
+pub fn write_letter(format: Format) -> char {
+    let named = WRITES.iter().find(|(_, named)| *named == format);
+    named.map_or('?', |(letter, _)| *letter)
 }
 
 impl Display for Command {
@@ -42,6 +66,7 @@ impl Display for Command {
             Command::Entry(side, entry) => ('e', side, entry.iter().map(address).collect()),
             Command::Look(addresses) => ('a', &Side::Base, addresses.iter().map(address).collect()),
             Command::Merge => ('l', &Side::Base, String::new()),
+            Command::Write(format, room) => (write_letter(*format), &Side::Base, address(room)),
         };
         let letter = match side {
             Side::Base => letter,
@@ -49,10 +74,6 @@ impl Display for Command {
         };
         write!(out, "{letter}{digits}")
     }
-}
-
-fn hex(bytes: &[u8]) -> String {
-    bytes.iter().map(|byte| format!("{byte:02X}")).collect()
 }
 
 /// Groups of so many digits, all of them capitals, as numbers.
@@ -91,13 +112,20 @@ fn parse_command(line: &str) -> Option<Command> {
         },
         'a' => Some(Command::Look(numbers(digits, 8)?)),
         'l' => Some(Command::Merge).filter(|_| digits.is_empty()),
-        _ => None,
+        _ => {
+            let &(_, format) = WRITES.iter().find(|(named, _)| *named == letter)?;
+            match numbers(digits, 8)?[..] {
+                [room] => Some(Command::Write(format, room)),
+                _ => None,
+            }
+        }
     }
 }
 
-/// Where both windows start, and the commands.
+/// The form of both images' marks, where both windows start, and the commands.
 #[derive(Clone, Debug, PartialEq, Eq)]
 pub struct Case {
+    pub form: Form,
     pub name: String,
     pub start: u32,
     pub commands: Vec<Command>,
@@ -105,7 +133,8 @@ pub struct Case {
 
 impl Case {
     fn heading(&self) -> String {
-        format!("@{:08X} {}\n", self.start, self.name)
+        let sign = form_sign(self.form);
+        format!("@{:08X}{sign}{}\n", self.start, self.name)
     }
 
     /// The case as `patches` reads it.
@@ -126,7 +155,7 @@ impl Case {
 
     /// What `patches` has to print for it.
     pub fn answer(&self) -> Vec<u8> {
-        let mut bench = Bench::new(self.start);
+        let mut bench = Bench::new(self.form, self.start);
         self.commands.iter().for_each(|command| bench.run(command));
         (self.heading() + &bench.printed).into_bytes()
     }
@@ -143,11 +172,12 @@ pub fn parse(script: &[u8]) -> Option<Vec<Case>> {
 fn parse_case(script: &str) -> Option<Case> {
     // The last line ends in LF, too.
     let mut lines = script.strip_suffix('\n')?.split('\n');
-    let (start, name) = lines.next()?.split_once(' ')?;
+    let (start, form, name) = split_heading(lines.next()?)?;
     let [start] = numbers(start, 8)?[..] else {
         return None;
     };
     let case = Case {
+        form,
         name: name.to_string(),
         start,
         commands: lines.map(parse_command).collect::<Option<_>>()?,
@@ -175,6 +205,7 @@ impl Held {
 /// Both images, and what was printed.
 #[derive(Clone, Debug)]
 pub struct Bench {
+    pub form: Form,
     pub start: u32,
     pub base: Held,
     pub patch: Held,
@@ -182,8 +213,9 @@ pub struct Bench {
 }
 
 impl Bench {
-    pub fn new(start: u32) -> Bench {
+    pub fn new(form: Form, start: u32) -> Bench {
         Bench {
+            form,
             start,
             base: Held::default(),
             patch: Held::default(),
@@ -206,11 +238,13 @@ impl Bench {
             Command::Entry(side, entry) => self.side(*side).title.entry = *entry,
             Command::Look(addresses) => addresses.iter().for_each(|&address| self.look(address)),
             Command::Merge => self.merge(),
+            Command::Write(format, room) => self.write(*format, *room),
         }
     }
 
     fn look(&mut self, address: u32) {
-        let (part, word) = look(self.start, self.base.image(), self.patch.image(), address);
+        let (base, patch) = (self.base.image(), self.patch.image());
+        let (part, word) = self.form.look(self.start, base, patch, address);
         let (part, word) = (hex(part), look_word(&word));
         self.printed += &format!("look {address:08X} [{part}] {word}\n");
     }
@@ -223,7 +257,8 @@ impl Bench {
             title,
         } = &mut self.base;
         let patch = self.patch.image();
-        let merged = merge(self.start, memory, marks, title, patch, &self.patch.title);
+        let form = self.form;
+        let merged = form.merge(self.start, memory, marks, title, patch, &self.patch.title);
         let refusal = refusal_words(&merged.refusal);
         let words = title_words(&merged.title);
         self.printed += &format!("merge {refusal} {words}\n");
@@ -231,6 +266,26 @@ impl Bench {
         if merged.refusal.number == 0 {
             *title = merged.title;
         }
+    }
+
+    /// What a write of the base image answers, and what it makes of an output.
+    pub fn written(&self, format: Format, room: u32) -> (Written, Vec<u8>) {
+        let Held {
+            memory,
+            marks,
+            title,
+        } = &self.base;
+        let mut out = vec![OLD_OUTPUT; OUTPUT.min(room as usize)];
+        let (writer, title) = (format.calls().write, (&title.header[..], title.entry));
+        let form = self.form;
+        let written = form.write(writer, self.start, memory, marks, title, &mut out);
+        (written, out)
+    }
+
+    fn write(&mut self, format: Format, room: u32) {
+        let (written, out) = self.written(format, room);
+        let (refusal, length) = (refusal_words(&written.refusal), written.length);
+        self.printed += &format!("write {refusal} length {length}\noutput {}\n", hex(&out));
     }
 }
 

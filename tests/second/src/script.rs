@@ -1,7 +1,8 @@
 //! The form in which the program `vectors` takes its cases and prints its
 //! answers: crates/vectors/src/main.rt says which.
 
-use crate::cases::{tapes, RECORDS};
+use crate::cases::{tapes, Drawing, RECORDS};
+use crate::form::Form;
 use crate::reading::{Loaded, Refusal};
 use crate::tape::Edition;
 
@@ -30,12 +31,24 @@ impl Format {
             Format::Tape(Edition::Sum) => '+',
         }
     }
+
+    /// The loader and the writer.
+    pub fn calls(self) -> &'static Drawing {
+        match self {
+            Format::Srec => &RECORDS,
+            Format::Tape(edition) => tapes::of(edition),
+        }
+    }
 }
+
+/// What stands before the name of a case with packed marks.
+const PACKED: char = '%';
 
 /// A text, and the window that it is loaded into.
 #[derive(Clone, Debug, PartialEq, Eq)]
 pub struct Case {
     pub format: Format,
+    pub form: Form,
     pub name: String,
     pub base: u32,
     pub cells: usize,
@@ -48,6 +61,7 @@ impl Case {
         let fits = cells <= ROOM && !text.contains(&b'@');
         fits.then_some(Case {
             format: Format::Srec,
+            form: Form::Bytes,
             name,
             base,
             cells,
@@ -60,9 +74,18 @@ impl Case {
         Case { format, ..self }
     }
 
+    /// The same with the other form of marks, or this one.
+    pub fn with(self, form: Form) -> Case {
+        Case { form, ..self }
+    }
+
     fn heading(&self) -> String {
+        let mut name = self.name.clone();
+        if self.form == Form::Packed {
+            name.insert(0, PACKED);
+        }
         let sign = self.format.sign();
-        format!("@{:08X}:{:08X}{sign}{}\n", self.base, self.cells, self.name)
+        format!("@{:08X}:{:08X}{sign}{name}\n", self.base, self.cells)
     }
 
     /// The case as `vectors` reads it.
@@ -70,22 +93,38 @@ impl Case {
         [self.heading().as_bytes(), &self.text].concat()
     }
 
+    /// The marks before the load: nothing depends on them.
+    fn old_marks(&self) -> Vec<u8> {
+        let mark = match self.form {
+            Form::Bytes => 0,
+            Form::Packed => 0xFF,
+        };
+        vec![mark; self.form.length(self.cells)]
+    }
+
+    /// The answer of the load, and memory and marks behind it.
+    pub fn load(&self) -> (Loaded, Vec<u8>, Vec<u8>) {
+        let (mut memory, mut marks) = (vec![0; self.cells], self.old_marks());
+        let (text, loader) = (&self.text, self.format.calls().load);
+        let form = self.form;
+        let loaded = form.load(loader, text, self.base, &mut memory, &mut marks);
+        (loaded, memory, marks)
+    }
+
     /// What `vectors` has to print for it.
     pub fn answer(&self) -> Vec<u8> {
-        let (mut memory, mut marks) = (vec![0; self.cells], vec![0; self.cells]);
-        let calls = match self.format {
-            Format::Srec => &RECORDS,
-            Format::Tape(edition) => tapes::of(edition),
-        };
-        let loaded = (calls.load)(&self.text, self.base, &mut memory, &mut marks);
+        let (loaded, memory, marks) = self.load();
         let mut printed = self.heading() + &answer_line(&loaded);
         if loaded.refusal.number != 0 {
             return printed.into_bytes();
         }
-        let header = &loaded.header[..loaded.header_len];
+        if self.form == Form::Packed {
+            printed += &format!("marks {}\n", hex(&marks));
+        }
+        let title = (&loaded.header[..loaded.header_len], loaded.entry);
         let mut out = vec![0; ROOM];
-        let entry = loaded.entry;
-        let written = (calls.write)(self.base, &memory, &marks, header, entry, &mut out);
+        let (form, writer) = (self.form, self.format.calls().write);
+        let written = form.write(writer, self.base, &memory, &marks, title, &mut out);
         if written.refusal.number != 0 {
             printed += &(refusal_words(&written.refusal) + "\n");
         }
@@ -111,13 +150,41 @@ fn parse_case(script: &[u8]) -> Option<Case> {
         .iter()
         .filter_map(|&format| Some((format, rest.strip_prefix(format.sign())?)));
     let (format, name) = named.next()?;
+    let (form, name) = match name.strip_prefix(PACKED) {
+        Some(name) => (Form::Packed, name),
+        None => (Form::Bytes, name),
+    };
     let case = Case::new(
         name.to_string(),
         u32::from_str_radix(base, 16).ok()?,
         usize::from_str_radix(cells, 16).ok()?,
         script[end + 1..].to_vec(),
     );
-    case.map(|case| case.of(format))
+    case.map(|case| case.of(format).with(form))
+}
+
+/// What stands before a name in the headings of `calls` and `patches`.
+pub(crate) fn form_sign(form: Form) -> char {
+    match form {
+        Form::Bytes => ' ',
+        Form::Packed => PACKED,
+    }
+}
+
+/// Such a heading up to that sign, the form that it says, and the name.
+pub(crate) fn split_heading(heading: &str) -> Option<(&str, Form, &str)> {
+    // Either sign may stand in a name, too: the first one counts.
+    let (before, rest) = heading.split_at(heading.find([' ', PACKED])?);
+    let form = if rest.starts_with(PACKED) {
+        Form::Packed
+    } else {
+        Form::Bytes
+    };
+    Some((before, form, &rest[1..]))
+}
+
+pub(crate) fn hex(bytes: &[u8]) -> String {
+    bytes.iter().map(|byte| format!("{byte:02X}")).collect()
 }
 
 pub(crate) fn refusal_words(refusal: &Refusal) -> String {

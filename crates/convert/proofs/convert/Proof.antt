@@ -1,5 +1,5 @@
 -- `convert` meets its contract: each way out is one law of ConvertLaws, and memory and marks are as the load left them.
-use mathlib.Core.Path.{sym, ap, _∙_}
+use mathlib.Core.Path.{_≡_, sym, ap, _∙_}
 use Prim.Native.Nat.{ℕ}
 use mathlib.Core.List.{List}
 use lib.ListN.{length}
@@ -7,6 +7,9 @@ use lib.Seq.{length-take-le}
 use Rattle.window.specs.declared.Loaded.{Loaded}
 use Rattle.window.specs.declared.Written.{Written}
 use Rattle.text.specs.Terms.{Accepted}
+use Rattle.text.specs.Formats.{plan}
+use Rattle.text.specs.Load.{load, loadAnswer, memoryAfter, marksAfter}
+use Rattle.load.proofs.LoaderLaws.{in-bytes}
 use Rattle.formats.specs.declared.Format.{Format as Choice}
 use Rattle.formats.specs.Choices.{formatOf}
 use Rattle.window.specs.Windows.{Window, windowOf}
@@ -31,6 +34,11 @@ text c = call c .args .text .now
 abbrev out : tie.After-load-as → List ℕ
 out c = call c .args .out .now
 
+-- what the load gives, with a mark byte a cell
+loads : (c : tie.After-load-as) → let o = load (window c) (plan (formatOf (format c)) (text c)) in
+    (c .load-as .result ≡ loadAnswer o) × ((c .load-as .last .1 .1 .1 .1 .0 ≡ memoryAfter (window c .memory) o) × (c .load-as .last .1 .1 .1 .1 .1 .0 ≡ marksAfter (window c .marks) o))
+loads c = let a = call c .args in in-bytes (a .base) (a .memory .now) (a .marks .now) _ _ _ _ (c .load-as .ensures)
+
 abbrev behind : tie.Else1 → tie.After-load-as
 behind c = c .before .before .before .before .before .before .before
 
@@ -39,27 +47,27 @@ passed c = c .before .before .before .before .before .before .before
 
 -- the load was accepted, and the write is the one behind it
 accepted-at : (c : tie.Else1) → Accepted (formatOf (format (behind c))) (window (behind c)) (text (behind c))
-accepted-at c = sym (ap (λ (x : Loaded). x .refusal .reason) (behind c .load-as .ensures .0)) ∙ c .if1 .left
+accepted-at c = sym (ap (λ (x : Loaded). x .refusal .reason) (loads (behind c) .0)) ∙ c .if1 .left
 
 returns : tie.Need-returns
 returns c =
     let l = c .before .before .before .before .before .before .before in
-    let r = load-refused (format l) (window l) (text l) (out l) _ (ap (λ (x : Loaded). x .refusal) (l .load-as .ensures .0)) (c .if1 .taken) in
-    (r .0, (l .load-as .ensures .1 .0, (l .load-as .ensures .1 .1, r .1)))
+    let r = load-refused (format l) (window l) (text l) (out l) _ (ap (λ (x : Loaded). x .refusal) (loads l .0)) (c .if1 .taken) in
+    (r .0, (loads l .1 .0, (loads l .1 .1, r .1)))
 
 array-share-prefix-bytes : tie.Need-array-share-prefix-bytes
-array-share-prefix-bytes c = let l = behind (c .before .before .before .before) in rw (l .load-as .ensures .0) (header-fits (formatOf (format l)) (window l) (text l))
+array-share-prefix-bytes c = let l = behind (c .before .before .before .before) in rw (loads l .0) (header-fits (formatOf (format l)) (window l) (text l))
 
 slice-aggregate-write-as : tie.Need-slice-aggregate-write-as
 slice-aggregate-write-as c =
     let l = behind (c .before .before .before .before .before) in
-    sym (length-take-le _ _ (rw (l .load-as .ensures .0) (header-fits (formatOf (format l)) (window l) (text l))))
+    sym (length-take-le _ _ (rw (loads l .0) (header-fits (formatOf (format l)) (window l) (text l))))
 
 returns-2 : tie.Need-returns-2
 returns-2 c =
     let w = c .before .before .before .before .before in
     let l = behind (passed w) in
-    let e = l .load-as .ensures in
+    let e = loads l in
     let is = written-is (formatOf (format l)) (window l) (text l) (length (out l)) (l .load-as .result) _ _ (e .0) (e .1 .0) (e .1 .1) in
     let r = write-refused (format l) (window l) (text l) (out l) (accepted-at (passed w)) _ is _ _
     (ap (λ (x : Written). x .refusal) (w .write-as .ensures .0)) (c .if2 .taken) (w .write-as .ensures .1) in
@@ -69,7 +77,7 @@ returns-3 : tie.Need-returns-3
 returns-3 c =
     let w = c .before .before .before .before .before in
     let l = behind (passed w) in
-    let e = l .load-as .ensures in
+    let e = loads l in
     let is = written-is (formatOf (format l)) (window l) (text l) (length (out l)) (l .load-as .result) _ _ (e .0) (e .1 .0) (e .1 .1) in
     let r = text-written (format l) (window l) (text l) (out l) (accepted-at (passed w)) _ is _ _
     (sym (ap (λ (x : Written). x .refusal .reason) (w .write-as .ensures .0)) ∙ c .if2 .left)

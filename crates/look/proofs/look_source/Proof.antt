@@ -1,48 +1,14 @@
--- `look_source` meets its contract: the rows, and then the source of the cell.
-use mathlib.Core.Path.{_≡_, sym, _∙_}
-use mathlib.Core.Bool.{true}
-use Rattle.window.specs.Windows.{Window, windowOf}
-use Rattle.overlay.specs.Refusals.{lookRefusal, passes}
-use Rattle.overlay.proofs.RefusalLaws.{look-fit}
-use Rattle.overlay.proofs.SourceLaws.{source-passed}
-use Rattle.look.proofs.SourceLaws.{passed, is-refused}
+-- `look_source` meets its contract: `look_source_as` with a mark byte a cell.
+use mathlib.Core.Path.{_∙_}
+use Rattle.overlay.proofs.FormLaws.{source-bytes}
 use borrow.Author.Needs.{needs}
 use Rattle.look.proofs.look_source.Statement.{statement}
 use Rattle.look.proofs.look_source.Tie as tie
 
--- the windows of a call
-module _ (c : tie.After-first-row) where
-  abbrev start : tie.Start
-  start = c .before .before .before .before .before
-
-  abbrev base : Window
-  base = windowOf (start .args .base) (start .args .base-memory .now) (start .args .base-marks .now)
-
-  abbrev patch : Window
-  patch = windowOf (start .args .base) (start .args .patch-memory .now) (start .args .patch-marks .now)
-
--- no row applies
-fit : (c : tie.Else1) → let j = c .before .before in passes (lookRefusal (base j) (patch j)) ≡ true
-fit c =
-    let j = c .before .before in
-    passed (base j) (patch j) (j .first-row .result) (j .first-row .ensures) (c .if1 .left)
-
 returns : tie.Need-returns
 returns c =
-    let j = c .before .before in
-    is-refused (base j) (patch j) (j .first-row .result) (j .first-row .ensures) (c .if1 .taken) (start j .args .address)
-
-source-at-requires : tie.Need-source-at-requires
-source-at-requires c κs =
-    let j = c .before .before in
-    let s = look-fit (base j) (patch j) (fit c) in
-    (s .base, s .patch, s .both)
-
-returns-2 : tie.Need-returns-2
-returns-2 c =
-    let e = c .before in
-    let j = e .before .before in
-    c .source-at .ensures ∙ sym (source-passed (base j) (patch j) (fit e) (start j .args .address))
+    let a = c .before .before .before .before .before .args in
+    c .look-source-as .ensures ∙ source-bytes (a .base) (a .base-memory .now) (a .base-marks .now) (a .patch-memory .now) (a .patch-marks .now) (a .address)
 
 pub look-source-spec : {M : Type 1} → statement M
-look-source-spec = tie.close (tie.spec (λ c κs. search needs) returns source-at-requires returns-2)
+look-source-spec = tie.close (tie.spec (λ c κs. search needs) returns)

@@ -10,8 +10,7 @@ use Rattle.marks.specs.Forms.{markBytes, plain}
 use Rattle.overlay.specs.declared.Source.{Source}
 use Rattle.overlay.specs.declared.Source.the-variants.{Patch, Base, Neither, Refused}
 use Rattle.overlay.specs.Facts.{names}
-use Rattle.overlay.proofs.RefusalLaws.{Alike}
-use Rattle.look.proofs.FormLaws.{plain-alike}
+use Rattle.overlay.proofs.RefusalLaws.{Alike, plain-alike}
 use Rattle.look.proofs.PartLaws.{patch-within, patch-part, base-within, base-part, empty-part}
 use borrow.Author.Needs.{needs}
 use Rattle.look.proofs.part_at.Statement.{statement}
@@ -41,7 +40,8 @@ module _ (c : tie.After-shared-slice-known4) where
       let a = start .args in
       let p = start .pre (rw e h) in
       record {
-        like = plain-alike (a .form) (a .base) (a .base-memory .now) (a .base-marks .now) (a .patch-memory .now) (a .patch-marks .now) (p .0) (p .1) (p .2);
+        like = plain-alike (a .form) (windowOf (a .base) (a .base-memory .now) (a .base-marks .now))
+            (windowOf (a .base) (a .patch-memory .now) (a .patch-marks .now)) (p .0) (p .1) (p .2);
         base-marks = p .0;
         patch-marks = p .1;
         low = p .3;

@@ -3,9 +3,8 @@ use mathlib.Core.Path.{sym}
 use native.Mathlib.Omega.{arith}
 use Rattle.window.specs.Windows.{Window, windowOf}
 use Rattle.marks.specs.Forms.{plain}
-use Rattle.overlay.proofs.RefusalLaws.{Alike}
+use Rattle.overlay.proofs.RefusalLaws.{Alike, plain-alike}
 use Rattle.overlay.proofs.SourceLaws.{source-below, source-behind}
-use Rattle.look.proofs.FormLaws.{plain-alike}
 use Rattle.look.proofs.SourceLaws.{is-patch, is-base, is-neither}
 use borrow.Author.Needs.{needs}
 use Rattle.look.proofs.source_at.Statement.{statement}
@@ -25,7 +24,7 @@ module _ (c : tie.After-shared-slice-known4) where
   like : Alike base patch
   like =
       let a = start .args in
-      plain-alike (a .form) (a .base) (a .base-memory .now) (a .base-marks .now) (a .patch-memory .now) (a .patch-marks .now)
+      plain-alike (a .form) (windowOf (a .base) (a .base-memory .now) (a .base-marks .now)) (windowOf (a .base) (a .patch-memory .now) (a .patch-marks .now))
       (start .pre .0) (start .pre .1) (start .pre .2)
 
 returns : tie.Need-returns

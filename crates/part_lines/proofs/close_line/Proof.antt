@@ -5,10 +5,11 @@ use native.Mathlib.Omega.{arith}
 use mathlib.Core.List.{List, _++_, map}
 use lib.ListN.{length, take, drop, set, length-map, length-drop, length-append, length-set}
 use lib.Seq.{length-take-le}
+use Rattle.marks.specs.Forms.{flags}
 use Rattle.intake.specs.Tallies.{knownOf}
 use Rattle.session.specs.Sessions.{visible}
 use Rattle.session.proofs.VisibleLaws.{shown-free, shown-more}
-use Rattle.part_lines.proofs.TurnLaws.{lf-behind, line-closed}
+use Rattle.part_lines.proofs.TurnLaws.{lf-behind, line-closed, rest-tidy}
 use borrow.Author.Needs.{needs}
 use Rattle.part_lines.proofs.close_line.Statement.{statement}
 use Rattle.part_lines.proofs.close_line.Tie as tie
@@ -91,11 +92,15 @@ returns c =
     let a = s .args in
     let cs = take (min (a .held) 515) (a .line .now) in
     let shown = j .hide-ends .ensures ∙ ap (λ (l : List ℕ). map visible l) (h .hold .ensures .0) ∙ shown-more cs (a .chars .now) (s .pre .5) in
-    line-closed (a .base) (length (a .memory .now)) (a .place) (a .memory .now) (a .marks .now) (knownOf (a .tally) (a .header .now)) (chars j)
-    (take 515 (map visible cs ++ a .chars .now)) _ (rw (j .hide-ends .ensures) (shown-free (take (n h) (line h)))) (omega (arith, chars-long j, h .hold .ensures .1))
-    shown (lf-behind (chars j) (drop (n h) (line h)) (n h) (chars-long j) (omega (arith, length-drop (n h) (line h), long h, h .hold .ensures .1)))
-    (t .take-lines .result) (c .turn-of .result) (c .turn-of .ensures) (t .take-lines .last .1 .1 .1 .1 .1 .1 .0)
-    (t .take-lines .last .1 .1 .1 .1 .1 .1 .1 .0) (t .take-lines .last .1 .1 .1 .1 .1 .1 .1 .1 .0) (t .take-lines .ensures .0)
+    let n₀ = length (a .memory .now) in (
+      line-closed (a .base) n₀ (a .place) (a .memory .now) (flags (a .form) n₀ (a .marks .now)) (knownOf (a .tally) (a .header .now)) (chars j)
+          (take 515 (map visible cs ++ a .chars .now)) _ (rw (j .hide-ends .ensures) (shown-free (take (n h) (line h))))
+          (omega (arith, chars-long j, h .hold .ensures .1)) shown
+          (lf-behind (chars j) (drop (n h) (line h)) (n h) (chars-long j) (omega (arith, length-drop (n h) (line h), long h, h .hold .ensures .1)))
+          (t .take-lines .result) (c .turn-of .result) (c .turn-of .ensures) (t .take-lines .last .1 .1 .1 .1 .1 .1 .0)
+          (t .take-lines .last .1 .1 .1 .1 .1 .1 .1 .0) (flags (a .form) n₀ (t .take-lines .last .1 .1 .1 .1 .1 .1 .1 .1 .1 .0)) (t .take-lines .ensures .0),
+      rest-tidy (a .form) n₀ (t .take-lines .result) (c .turn-of .result) _ (c .turn-of .ensures) (t .take-lines .ensures .2),
+    )
 
 pub close-line-spec : {M : Type 1} → statement M
 close-line-spec =

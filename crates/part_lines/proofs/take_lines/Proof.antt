@@ -1,10 +1,12 @@
 -- `take_lines` meets its contract. The loop's invariant: what is left of the part comes to what all of it comes to.
 -- Each way out and the way round is one law of LoopLaws.
-use mathlib.Core.Path.{_≡_, refl, sym, _∙_}
+use mathlib.Core.Path.{_≡_, refl, sym, _∙_, subst}
 use Prim.Native.Nat.{ℕ, _+_, _-_, _≤_}
 use native.Mathlib.Omega.{arith}
 use lib.ListN.{length, drop}
 use Rattle.lists.proofs.PartLaws.{part-long}
+use Rattle.marks.specs.Forms.{flags, markBytes, Tidy}
+use Rattle.marks.proofs.FormLaws.{flags-length, tidy-length}
 use Rattle.text.proofs.FindLaws.{from-is}
 use Rattle.srec.specs.Lines.{isEnd}
 use Rattle.parts.specs.Parts.{stage, fed}
@@ -12,7 +14,7 @@ use Rattle.parts.specs.Parts.Status.{going}
 use Rattle.parts.specs.Stretches.{fresh}
 use Rattle.intake.specs.Tallies.{knownOf}
 use Rattle.intake.specs.Takes.{beginOf}
-use Rattle.part_lines.proofs.TurnLaws.{took-refused, took-next, stopped-as}
+use Rattle.part_lines.proofs.TurnLaws.{took-refused, took-next, turn-tidy, stopped-as}
 use Rattle.part_lines.proofs.LoopLaws.{IsNext, line-next, Taking, roomy, left-open, open-free, number-fits, line-halts, line-reason, line-goes}
 use borrow.Author.Needs.{needs}
 use Rattle.part_lines.proofs.take_lines.Statement.{statement}
@@ -20,13 +22,14 @@ use Rattle.part_lines.proofs.take_lines.Tie as tie
 
 -- what all of the part comes to
 abbrev Inv-loop : tie.InvT-loop
-Inv-loop table part first total base header₀ memory₀ marks₀ now₀ at₀ header memory marks now at =
+Inv-loop table part first total base header₀ memory₀ form marks₀ now₀ at₀ header memory marks now at =
     Taking base (length memory₀) total part
-    (fed base (stage (going (fresh (length memory₀) (total + at₀) (knownOf now₀ header₀))) memory₀ marks₀) (drop at₀ part)) memory marks now header at
-    × (length header₀ ≡ 252) × (length marks₀ ≡ length memory₀)
+    (fed base (stage (going (fresh (length memory₀) (total + at₀) (knownOf now₀ header₀))) memory₀ (flags form (length memory₀) marks₀)) (drop at₀ part))
+    memory (flags form (length memory₀) marks) now header at
+    × (length header₀ ≡ 252) × Tidy form (length memory₀) marks₀ × Tidy form (length memory₀) marks
 
 abbrev μ-loop : tie.MeasureT-loop
-μ-loop table part first total base header₀ memory₀ marks₀ now₀ at₀ header memory marks now at = length part - at
+μ-loop table part first total base header₀ memory₀ form marks₀ now₀ at₀ header memory marks now at = length part - at
 
 -- places: the loop's head, and the call
 abbrev call : tie.At-loop Inv-loop μ-loop → tie.Start Inv-loop μ-loop
@@ -59,12 +62,24 @@ stepped c = c .before .before .before .before .before .before
 abbrev told : tie.After-take-step Inv-loop μ-loop → tie.After-known-told Inv-loop μ-loop
 told c = c .before .before .before .before .before
 
+-- the marks keep their number
+marks-long : (l : tie.At-loop Inv-loop μ-loop) → length (l .loop .marks) ≡ length (call l .args .marks .now)
+marks-long l =
+    let a = call l .args in
+    let n = length (a .memory .now) in
+    tidy-length (a .form) n (l .loop .marks) (l .loop .inv .3) ∙ sym (tidy-length (a .form) n (a .marks .now) (l .loop .inv .2))
+
+-- and are tidy, by the memory at hand
+tidy-now : (l : tie.At-loop Inv-loop μ-loop) → Tidy (call l .args .form) (length (l .loop .memory)) (l .loop .marks)
+tidy-now l = subst (λ (n : ℕ). Tidy (call l .args .form) n (l .loop .marks)) (sym (l .loop .inv .0 .memory-long)) (l .loop .inv .3)
+
 loop-holds : tie.Need-loop-holds Inv-loop μ-loop
 loop-holds c =
     let p = c .before .before .before .before .pre in (
-      record { inside = p .1; memory-long = refl; marks-long = sym (p .2); header-long = p .3; few = p .4; left = refl },
+      record { inside = p .1; memory-long = refl; marks-long = p .2 .0; header-long = p .3; few = p .4; left = refl },
       p .3,
-      sym (p .2),
+      p .2,
+      p .2,
     )
 
 take-next-requires : tie.Need-take-next-requires Inv-loop μ-loop
@@ -104,7 +119,7 @@ same-length-2 : tie.Need-same-length-2 Inv-loop μ-loop
 same-length-2 c = head (c .before .before .before .before) .loop .inv .0 .memory-long
 
 same-length-3 : tie.Need-same-length-3 Inv-loop μ-loop
-same-length-3 c = let i = head (c .before .before .before .before) .loop .inv in i .0 .marks-long ∙ sym (i .2)
+same-length-3 c = let l = head (c .before .before .before .before) in marks-long l
 
 returns : tie.Need-returns Inv-loop μ-loop
 returns c =
@@ -114,6 +129,7 @@ returns c =
     let l = head at-next in (
       left-open (l .loop .inv .0) q _ (begins c),
       (inside-at c, open-free (l .loop .inv .0) q _ (begins c)),
+      l .loop .inv .3,
     )
 
 sub-take-step : tie.Need-sub-take-step Inv-loop μ-loop
@@ -137,7 +153,7 @@ take-step-requires c κs =
     let j = c .before .before .before .before in
     let l = own j in
     let i = l .loop .inv .0 in
-    ((call l .pre .0, i .memory-long ∙ sym (i .marks-long), i .header-long, number-fits i (next-at j)), next-at j .step-is)
+    ((call l .pre .0, tidy-now l, i .header-long, number-fits i (next-at j)), next-at j .step-is)
 
 same-length-4 : tie.Need-same-length-4 Inv-loop μ-loop
 same-length-4 c =
@@ -154,15 +170,24 @@ same-length-6 : tie.Need-same-length-6 Inv-loop μ-loop
 same-length-6 c =
     let k = stepped (c .before .before .before) in
     let i = own (told k) .loop .inv in
-    k .take-step .kept .1 .1 .1 .1 .1 .1 .1 .1 .0 ∙ i .0 .marks-long ∙ sym (i .2)
+    k .take-step .kept .1 .1 .1 .1 .1 .1 .1 .1 .1 .0 ∙ marks-long (own (told k))
 
 returns-2 : tie.Need-returns-2 Inv-loop μ-loop
 returns-2 c =
     let k = stepped (c .before .before .before) in
     let j = told k in
     let i = own j .loop .inv .0 in
-    let y = took-refused _ _ _ _ _ _ (k .take-step .ensures) _ (c .before .turn .given .1) in
-    (stopped-as _ _ _ _ (own j .loop .marks) (k .take-step .last .1 .1 .1 .1 .1 .1 .1 .1 .0) (line-halts i (next-at j) _ (y .0)) (y .1) (k .take-step .kept .1 .1 .1 .1 .1 .1 .1 .1 .0), line-reason i (next-at j) _ (y .0))
+    let l = own j in
+    let n = length (call l .args .memory .now) in
+    let f = call l .args .form in
+    let y = took-refused _ _ _ _ _ _ (rw (i .memory-long) at (k .take-step .ensures .0)) _ (c .before .turn .given .1) in
+    let long : length (k .take-step .last .1 .1 .1 .1 .1 .1 .1 .1 .1 .0) ≡ markBytes f n
+    = k .take-step .kept .1 .1 .1 .1 .1 .1 .1 .1 .1 .0 ∙ tidy-length f n (l .loop .marks) (l .loop .inv .3) in (
+      stopped-as _ _ _ _ (flags f n (l .loop .marks)) (flags f n (k .take-step .last .1 .1 .1 .1 .1 .1 .1 .1 .1 .0)) (line-halts i (next-at j) _ (y .0)) (y .1)
+          (flags-length f n _ long ∙ sym (i .marks-long)),
+      line-reason i (next-at j) _ (y .0),
+      tt,
+    )
 
 add-at : tie.Need-add-at Inv-loop μ-loop
 add-at c =
@@ -182,10 +207,11 @@ loop-again c =
     let k = stepped (c .before .before .before) in
     let j = told k in
     let i = own j .loop .inv in (
-      line-goes (i .0) (next-at j) _ _ _ _ (took-next _ _ _ _ _ _ (k .take-step .ensures) _ (c .before .turn2 .given .1))
+      line-goes (i .0) (next-at j) _ _ _ _ (took-next _ _ _ _ _ _ (rw (i .0 .memory-long) at (k .take-step .ensures .0)) _ (c .before .turn2 .given .1))
           (k .take-step .kept .1 .1 .1 .1 .1 .1 .0 ∙ i .0 .header-long),
       i .1,
       i .2,
+      turn-tidy _ _ _ _ (rw (i .0 .memory-long) at (k .take-step .ensures .1)) _ (c .before .turn2 .given .1),
     )
 
 pub take-lines-spec : {M : Type 1} → statement M

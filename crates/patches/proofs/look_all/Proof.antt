@@ -9,10 +9,10 @@ use Rattle.patches.proofs.look_all.Statement.{statement}
 use Rattle.patches.proofs.look_all.Tie as tie
 
 abbrev Inv-loop : tie.InvT-loop
-Inv-loop table base under over digits at₀ at = (table ≡ digitTable) × (at ≤ length digits)
+Inv-loop table form base under over digits at₀ at = (table ≡ digitTable) × (at ≤ length digits)
 
 abbrev μ-loop : tie.MeasureT-loop
-μ-loop table base under over digits at₀ at = length digits - at
+μ-loop table form base under over digits at₀ at = length digits - at
 
 number-of-requires : tie.Need-number-of-requires Inv-loop μ-loop
 number-of-requires c κs = (search needs, rw (length-take, length-drop) (omega arith))

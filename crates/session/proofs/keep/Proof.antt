@@ -32,6 +32,7 @@ returns c =
         place = a .session .place;
         held = cs;
       }) shown,
+      refl,
     )
 
 pub keep-spec : {M : Type 1} → statement M

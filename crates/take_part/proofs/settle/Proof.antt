@@ -43,8 +43,9 @@ returns c =
     let at-halt = c .before .before in
     let at-rest = at-halt .before .before .before in
     let a = call (at-rest .before .before) .args in
-    settled-refused (a .session .size) (a .session .total) (a .header) (a .part .now) (a .marks .now) (a .rest) _ (at-rest .rest .given .1) _ _
-    (at-halt .halt .ensures .0) (at-halt .halt .ensures .1)
+    let t = settled-refused (a .session .size) (a .session .total) (a .header) (a .part .now) (a .marks .now) (a .rest) _ (at-rest .rest .given .1) _ _
+    (at-halt .halt .ensures .0) (at-halt .halt .ensures .1 .0) in
+    (t .0, (t .1, at-halt .halt .ensures .1 .1))
 
 add-next-record : tie.Need-add-next-record
 add-next-record c = let j = c .before .before in record { fits = omega (arith, inside j, own j .pre .1) }
@@ -78,9 +79,10 @@ returns-2 c =
     let n = c .before .before in
     let j = begun n in
     let a = own j .args in
-    settled-from (a .session .size) (a .session .total) (a .header) (a .part .now) (a .marks .now) (a .rest) (from j) _ (j .rest2 .given .1)
+    let t = settled-from (a .session .size) (a .session .total) (a .header) (a .part .now) (a .marks .now) (a .rest) (from j) _ (j .rest2 .given .1)
     (c .keep .result) (ap (λ (f : Refusal). f .reason) (c .keep .ensures .0 ∙ n .next-record .ensures .0) ∙ own j .pre .0)
-    (c .keep .ensures .1 ∙ ap (λ (g : Going). keptAll g (take (length (a .part .now) - from j) (drop (from j) (a .part .now)))) (n .next-record .ensures .1))
+    (c .keep .ensures .1 ∙ ap (λ (g : Going). keptAll g (take (length (a .part .now) - from j) (drop (from j) (a .part .now)))) (n .next-record .ensures .1)) in
+    (t .0, (t .1, c .keep .ensures .2 ∙ n .next-record .ensures .2))
 
 pub settle-spec : {M : Type 1} → statement M
 settle-spec =

@@ -1,18 +1,25 @@
 -- `take_cut` meets its contract: the line that was cut, those behind it, and what stands behind them.
-use mathlib.Core.Path.{_≡_, sym, ap, _∙_}
-use Prim.Native.Nat.{ℕ}
+use mathlib.Core.Path.{_≡_, sym, ap, _∙_, subst}
+use Prim.Native.Nat.{ℕ, _+_}
 use native.Mathlib.Omega.{arith}
 use mathlib.Core.List.{List, _++_}
-use lib.ListN.{length, take, replicate}
+use lib.ListN.{length, take, drop, replicate}
 use lib.Seq.{length-take-le}
-use Rattle.parts.specs.Parts.{lineTurn}
+use Rattle.marks.specs.Forms.{flags, markBytes, Tidy}
+use Rattle.marks.proofs.FormLaws.{tidy-length}
+use Rattle.parts.specs.Parts.{stage, lineTurn, fed}
+use Rattle.parts.specs.Parts.Status.{going}
+use Rattle.parts.specs.Stretches.{fresh}
+use Rattle.parts.specs.Forms.{inForm}
 use Rattle.parts.specs.Parts.Turn.{next}
 use Rattle.intake.specs.declared.Tally.{Tally}
 use Rattle.intake.specs.Tallies.{knownOf}
 use Rattle.session.specs.Sessions.{goingOf}
-use Rattle.part_lines.proofs.TurnLaws.{took-refused, took-next}
-use Rattle.take_part.proofs.AllowedLaws.{same-length as lent-alike, few-now}
-use Rattle.take_part.proofs.ReadLaws.{shows, Reading, total-few, chars-free, first-halts, first-reason, next-same, next-few, first-goes, settled}
+use Rattle.part_lines.proofs.TurnLaws.{took-refused, took-next, turn-tidy}
+use Rattle.session.proofs.SessionLaws.{clear-marks}
+use Rattle.part_lines.specs.Rests.{behind, TidyRest}
+use Rattle.take_part.proofs.AllowedLaws.{few-now}
+use Rattle.take_part.proofs.ReadLaws.{shows, Reading, total-few, chars-free, first-halts, first-reason, next-few, first-goes, settled, with-form}
 use borrow.Author.Needs.{needs}
 use Rattle.take_part.proofs.take_cut.Statement.{statement}
 use Rattle.take_part.proofs.take_cut.Tie as tie
@@ -45,7 +52,7 @@ reading s =
         session = a .session;
         base = a .base;
         memory = a .memory .now;
-        marks = a .marks .now;
+        marks = flags (a .session .form) (length (a .memory .now)) (a .marks .now);
         allowed = s .pre .1 .0;
       };
       part = a .part .now;
@@ -66,12 +73,26 @@ abbrev memory : tie.After-turn2 → List ℕ
 memory c = told c .close-line .last .1 .1 .1 .1 .1 .1 .1 .1 .0
 
 abbrev marks : tie.After-turn2 → List ℕ
-marks c = told c .close-line .last .1 .1 .1 .1 .1 .1 .1 .1 .1 .0
+marks c = told c .close-line .last .1 .1 .1 .1 .1 .1 .1 .1 .1 .1 .0
+
+-- the cells, and what marks say of them
+abbrev cells : tie.After-turn2 → ℕ
+cells c = length (start (call (told c)) .args .memory .now)
+
+abbrev own : tie.After-turn2 → List ℕ → List ℕ
+own c = flags (start (call (told c)) .args .session .form) (cells c)
 
 took : (c : tie.After-turn2) → let a = start (call (told c)) .args in
     lineTurn (a .base) (a .session .place) (take 515 (goingOf (a .session) .held ++ take (a .first) (a .part .now))) (a .memory .now)
-    (a .marks .now) (knownOf (a .session .tally) (a .session .header)) ≡ next (knownOf (tally c) (header c)) (memory c) (marks c)
-took c = took-next _ _ _ _ _ _ (told c .close-line .ensures) _ (c .turn2 .given .1)
+    (own c (a .marks .now)) (knownOf (a .session .tally) (a .session .header)) ≡ next (knownOf (tally c) (header c)) (memory c) (own c (marks c))
+took c = took-next _ _ _ _ _ _ (told c .close-line .ensures .0) _ (c .turn2 .given .1)
+
+-- the marks are tidy, and memory as long as it was
+tidy : (c : tie.After-turn2) → Tidy (start (call (told c)) .args .session .form) (cells c) (marks c)
+tidy c = turn-tidy _ _ _ _ (told c .close-line .ensures .1) _ (c .turn2 .given .1)
+
+memory-long : (c : tie.After-turn2) → length (memory c) ≡ cells c
+memory-long c = told c .close-line .kept .1 .1 .1 .1 .1 .1 .1 .1 .0
 
 slice-aggregate-close-line : tie.Need-slice-aggregate-close-line
 slice-aggregate-close-line c = sym (line-long (start (given (c .before .before))))
@@ -89,14 +110,14 @@ close-line-requires c κs =
     let j = given (c .before .before .before .before .before .before) in
     let s = start j in
     let p = reading s in
-    (j .digit-table .ensures, line-long s, lent-alike (p .call), header-long s, few-now (p .call), chars-free p _ (s .pre .0 .1) (s .pre .0 .2))
+    (j .digit-table .ensures, line-long s, s .pre .1 .2, header-long s, few-now (p .call), chars-free p _ (s .pre .0 .1) (s .pre .0 .2))
 
 halt-requires : tie.Need-halt-requires
 halt-requires c κs =
     let at-turn = c .before .before in
     let k = closed (at-turn .before .before) in
     let s = start (call k) in
-    first-reason (reading s) _ (s .pre .0 .1) (s .pre .0 .2) _ (took-refused _ _ _ _ _ _ (k .close-line .ensures) _ (at-turn .turn .given .1) .0)
+    first-reason (reading s) _ (s .pre .0 .1) (s .pre .0 .2) _ (took-refused _ _ _ _ _ _ (k .close-line .ensures .0) _ (at-turn .turn .given .1) .0)
 
 returns : tie.Need-returns
 returns c =
@@ -104,9 +125,15 @@ returns c =
     let at-turn = at-halt .before .before .before in
     let k = closed (at-turn .before .before) in
     let s = start (call k) in
-    let y = took-refused _ _ _ _ _ _ (k .close-line .ensures) _ (at-turn .turn .given .1) in
-    shows (first-halts (reading s) _ (s .pre .0 .1) (s .pre .0 .2) _ (y .0)) (at-halt .halt .ensures .0) (y .1)
-    (at-halt .halt .ensures .1 ∙ ap (λ (n : ℕ). replicate n 0) (k .close-line .kept .1 .1 .1 .1 .1 .1 .1 .1 .1 .0))
+    let y = took-refused _ _ _ _ _ _ (k .close-line .ensures .0) _ (at-turn .turn .given .1) in
+    let a = s .args in
+    let f = a .session .form in
+    let n = length (a .memory .now) in
+    with-form
+    (shows (ap (inForm f) (first-halts (reading s) _ (s .pre .0 .1) (s .pre .0 .2) _ (y .0))) (at-halt .halt .ensures .0) (y .1)
+    (at-halt .halt .ensures .1 .0 ∙ ap (λ (k : ℕ). replicate k 0) (k .close-line .kept .1 .1 .1 .1 .1 .1 .1 .1 .1 .1 .0)
+    ∙ sym (clear-marks f n (a .marks .now) (tidy-length f n (a .marks .now) (s .pre .1 .2)))))
+    (at-halt .halt .ensures .1 .1)
 
 add-take-lines : tie.Need-add-take-lines
 add-take-lines c =
@@ -126,9 +153,9 @@ take-lines-requires c κs =
     let p = reading s in (
       call k .digit-table .ensures,
       omega (arith, s .pre .0 .2),
-      next-same p (s .args .first) (s .pre .0 .1) (s .pre .0 .2) (tally j) (header j) (memory j) (marks j) (took j),
+      subst (λ (n : ℕ). Tidy (s .args .session .form) n (marks j)) (sym (memory-long j)) (tidy j),
       k .close-line .kept .1 .1 .1 .1 .1 .1 .1 .0 ∙ header-long s,
-      next-few p (s .args .first) (s .pre .0 .1) (s .pre .0 .2) (tally j) (header j) (memory j) (marks j) (took j),
+      next-few p (s .args .first) (s .pre .0 .1) (s .pre .0 .2) (tally j) (header j) (memory j) (own j (marks j)) (took j),
     )
 
 -- the lines behind it were taken
@@ -153,8 +180,8 @@ same-length-4 : tie.Need-same-length-4
 same-length-4 c =
     let at-settle = c .before .before in
     let k = lines (at-settle .before .before) in
-    at-settle .settle .kept .1 .1 .1 .1 .0 ∙ k .take-lines .kept .1 .1 .1 .1 .1 .1 .1 .1 .0
-    ∙ told (next-line k) .close-line .kept .1 .1 .1 .1 .1 .1 .1 .1 .1 .0
+    at-settle .settle .kept .1 .1 .1 .1 .0 ∙ k .take-lines .kept .1 .1 .1 .1 .1 .1 .1 .1 .1 .0
+    ∙ told (next-line k) .close-line .kept .1 .1 .1 .1 .1 .1 .1 .1 .1 .1 .0
 
 returns-2 : tie.Need-returns-2
 returns-2 c =
@@ -165,10 +192,20 @@ returns-2 c =
     let r = k .take-lines .result in
     let h = k .take-lines .last .1 .1 .1 .1 .1 .1 .0 in
     let m = k .take-lines .last .1 .1 .1 .1 .1 .1 .1 .0 in
-    let x = k .take-lines .last .1 .1 .1 .1 .1 .1 .1 .1 .0 in
-    settled _ (s .args .session .size) (s .args .session .total) h (s .args .part .now) r m x
-    (first-goes (reading s) (s .args .first) (s .pre .0 .1) (s .pre .0 .2) (tally j) (header j) (memory j) (marks j) (took j) r h m x
-    (k .take-lines .ensures .0)) _ _ (at-settle .settle .ensures .0) (at-settle .settle .ensures .1)
+    let x = k .take-lines .last .1 .1 .1 .1 .1 .1 .1 .1 .1 .0 in
+    let a = s .args in
+    let f = a .session .form in
+    let n = length (a .memory .now) in
+    let e = k .take-lines .ensures in
+    let long : length x ≡ markBytes f n = k .take-lines .kept .1 .1 .1 .1 .1 .1 .1 .1 .1 .0 ∙ tidy-length f n (marks j) (tidy j) in
+    with-form
+    (settled f n _ (a .session .size) (a .session .total) h (a .part .now) r m x
+    (first-goes (reading s) (a .first) (s .pre .0 .1) (s .pre .0 .2) (tally j) (header j) (memory j) (own j (marks j)) (took j) r h m (flags f n x)
+    (subst (λ (c : ℕ). fed (a .base) (stage (going (fresh (length (memory j)) (a .session .total + (a .first + 1)) (knownOf (tally j) (header j)))) (memory j)
+    (flags f c (marks j))) (drop (a .first + 1) (a .part .now)) ≡ behind (length (memory j)) (a .session .total) h (a .part .now) r m (flags f c x))
+    (memory-long j) (e .0))) long (subst (λ (c : ℕ). TidyRest f c r x) (memory-long j) (e .2)) _ _
+    (at-settle .settle .ensures .0) (at-settle .settle .ensures .1 .0))
+    (at-settle .settle .ensures .1 .1)
 
 pub take-cut-spec : {M : Type 1} → statement M
 take-cut-spec =

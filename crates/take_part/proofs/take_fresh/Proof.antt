@@ -2,8 +2,9 @@
 use mathlib.Core.Path.{_≡_, sym, _∙_}
 use native.Mathlib.Omega.{arith}
 use lib.ListN.{length}
-use Rattle.take_part.proofs.AllowedLaws.{same-length as lent-alike}
-use Rattle.take_part.proofs.ReadLaws.{Reading, total-few, few-all, all-goes, settled}
+use Rattle.marks.specs.Forms.{flags, markBytes}
+use Rattle.marks.proofs.FormLaws.{tidy-length}
+use Rattle.take_part.proofs.ReadLaws.{Reading, total-few, few-all, all-goes, settled, with-form}
 use borrow.Author.Needs.{needs}
 use Rattle.take_part.proofs.take_fresh.Statement.{statement}
 use Rattle.take_part.proofs.take_fresh.Tie as tie
@@ -33,7 +34,7 @@ reading s =
         session = a .session;
         base = a .base;
         memory = a .memory .now;
-        marks = a .marks .now;
+        marks = flags (a .session .form) (length (a .memory .now)) (a .marks .now);
         allowed = s .pre .1 .0;
       };
       part = a .part .now;
@@ -47,7 +48,7 @@ take-lines-requires : tie.Need-take-lines-requires
 take-lines-requires c κs =
     let j = given (c .before .before .before .before) in
     let p = reading (start j) in
-    (j .digit-table .ensures, omega arith, lent-alike (p .call), header-long (start j), few-all p (start j .pre .0 .1))
+    (j .digit-table .ensures, omega arith, start j .pre .1 .2, header-long (start j), few-all p (start j .pre .0 .1))
 
 settle-requires : tie.Need-settle-requires
 settle-requires c κs =
@@ -61,7 +62,7 @@ same-length c = lines (c .before .before .before .before) .take-lines .kept .1 .
 same-length-2 : tie.Need-same-length-2
 same-length-2 c =
     let at-settle = c .before .before in
-    at-settle .settle .kept .1 .1 .1 .1 .0 ∙ lines (at-settle .before .before) .take-lines .kept .1 .1 .1 .1 .1 .1 .1 .1 .0
+    at-settle .settle .kept .1 .1 .1 .1 .0 ∙ lines (at-settle .before .before) .take-lines .kept .1 .1 .1 .1 .1 .1 .1 .1 .1 .0
 
 returns : tie.Need-returns
 returns c =
@@ -71,9 +72,16 @@ returns c =
     let r = k .take-lines .result in
     let h = k .take-lines .last .1 .1 .1 .1 .1 .1 .0 in
     let m = k .take-lines .last .1 .1 .1 .1 .1 .1 .1 .0 in
-    let x = k .take-lines .last .1 .1 .1 .1 .1 .1 .1 .1 .0 in
-    settled _ (s .args .session .size) (s .args .session .total) h (s .args .part .now) r m x
-    (all-goes (reading s) (s .pre .0 .1) r h m x (k .take-lines .ensures .0)) _ _ (at-settle .settle .ensures .0) (at-settle .settle .ensures .1)
+    let x = k .take-lines .last .1 .1 .1 .1 .1 .1 .1 .1 .1 .0 in
+    let a = s .args in
+    let f = a .session .form in
+    let n = length (a .memory .now) in
+    let long : length x ≡ markBytes f n = k .take-lines .kept .1 .1 .1 .1 .1 .1 .1 .1 .1 .0 ∙ tidy-length f n (a .marks .now) (s .pre .1 .2) in
+    with-form
+    (settled f n _ (a .session .size) (a .session .total) h (a .part .now) r m x
+    (all-goes (reading s) (s .pre .0 .1) r h m (flags f n x) (k .take-lines .ensures .0)) long (k .take-lines .ensures .2) _ _
+    (at-settle .settle .ensures .0) (at-settle .settle .ensures .1 .0))
+    (at-settle .settle .ensures .1 .1)
 
 pub take-fresh-spec : {M : Type 1} → statement M
 take-fresh-spec =

@@ -4,6 +4,7 @@ use second::cases::cuts::parts_case;
 use second::cases::overlays::overlay_case;
 use second::cases::tapes::{SUM_TAPES, TAPES};
 use second::cases::{Drawing, RECORDS, SMALL};
+use second::form::Form;
 use second::overlay::{look, merge, Word};
 use second::patches::{Bench, Case, Command, Held};
 use second::reading::{Loaded, Refusal};
@@ -155,14 +156,16 @@ fn overlay_line(seed: u64, index: u64) -> String {
     object(&[arguments, refusal(&merged.refusal), answer].concat())
 }
 
-/// Images before a merge, and the addresses to look at, drawn until they are small.
+/// Images before a merge, and the addresses to look at, drawn until they are small
+/// and their marks are bytes.
 fn small_overlay(seed: u64, index: u64) -> (Bench, Vec<u32>) {
     let mut stream = index;
     loop {
         let (bench, addresses) = before_merge(&overlay_case(seed, stream));
         let images = [&bench.base, &bench.patch];
         let buffers = images.map(|image| image.memory.len().max(image.marks.len()));
-        if buffers.iter().all(|&length| length <= CELLS) {
+        let small = buffers.iter().all(|&length| length <= CELLS);
+        if small && bench.form == Form::Bytes {
             return (bench, addresses);
         }
         // Far from what another index draws.
@@ -172,7 +175,7 @@ fn small_overlay(seed: u64, index: u64) -> (Bench, Vec<u32>) {
 
 /// The images at the first merge of a case, and the addresses looked at before.
 fn before_merge(case: &Case) -> (Bench, Vec<u32>) {
-    let mut bench = Bench::new(case.start);
+    let mut bench = Bench::new(case.form, case.start);
     let mut addresses = Vec::new();
     for command in &case.commands {
         match command {

@@ -1,8 +1,10 @@
 //! Loads in parts as series of calls, with what a caller can do between them.
 
 use super::cuts::{any_parts, ways};
+use super::packed::any_form;
 use super::{load_case, Limits, LoadCase};
 use crate::calls::{Bench, Call, Case, ROOM};
+use crate::form::Form;
 use crate::parts::{Number, MOST};
 use crate::random::Random;
 
@@ -85,21 +87,24 @@ pub struct Drawn {
     pub trick: Trick,
 }
 
-/// The load case of this seed and index, cut, with a trick at one of the cuts.
+/// The load case of this seed and index, cut, with a trick at one of the cuts. Some
+/// have packed marks.
 pub fn series_case(seed: u64, index: u64, limits: Limits) -> Drawn {
     // The calls have other numbers than the text.
     let random = &mut Random::new(!seed, index);
     let drawn = load_case(seed, index, limits);
+    let form = any_form(seed, index);
     let trick = random.pick(&TRICKS);
     let text = [&drawn.text[..], random.pick(&TAILS)].concat();
     let mut series = Series {
-        bench: Bench::new(drawn.base, drawn.memory.len()),
+        bench: Bench::new(form, drawn.base, drawn.memory.len()),
         calls: Vec::new(),
         rest: &text,
     };
     let parts = any_parts(random, &drawn.text);
     draw_calls(random, &mut series, &drawn, &parts, trick);
     let case = Case {
+        form,
         name: format!("seed {seed}, index {index}, {trick:?}"),
         base: drawn.base,
         cells: drawn.memory.len(),
@@ -118,7 +123,12 @@ fn draw_calls(
     trick: Trick,
 ) {
     if drawn.marks.len() != drawn.memory.len() {
-        series.call(Call::Lend(drawn.memory.len(), drawn.marks.len()));
+        let cells = drawn.memory.len();
+        let marks = match series.bench.form {
+            Form::Bytes => drawn.marks.len(),
+            Form::Packed => other_mark_bytes(random, cells),
+        };
+        series.call(Call::Lend(cells, marks));
         series.call(Call::Begin);
     }
     let at = random.size(0, parts.len());
@@ -126,6 +136,7 @@ fn draw_calls(
         if index == at {
             play(random, series, trick);
         }
+        some_spare_bits(random, series);
         series.call(Call::Feed(part.len()));
         if random.chance(1, 8) {
             series.call(Call::Show);
@@ -134,6 +145,7 @@ fn draw_calls(
     if at == parts.len() {
         play(random, series, trick);
     }
+    some_spare_bits(random, series);
     series.call(Call::End);
     behind_the_end(random, series, trick);
 }
@@ -147,8 +159,21 @@ fn behind_the_end(random: &mut Random, series: &mut Series, trick: Trick) {
         series.call(Call::Rest(number));
         series.call(Call::Show);
     }
+    some_spare_bits(random, series);
     if random.chance(1, 2) {
         series.call(Call::End);
+    }
+}
+
+/// Sets spare bits of packed marks now and then, whatever else the caller does.
+fn some_spare_bits(random: &mut Random, series: &mut Series) {
+    let Bench { form, cells, .. } = series.bench;
+    let spare = 0xFF << (cells % 8);
+    if form == Form::Packed && !cells.is_multiple_of(8) && random.chance(1, 6) {
+        let last = cells / 8;
+        let any = random.byte();
+        let some = random.pick(&[0x80, 0xFF, 1 << (cells % 8), any]);
+        series.call(Call::Mark(last, series.bench.marks[last] | spare & some));
     }
 }
 
@@ -179,12 +204,41 @@ fn play(random: &mut Random, series: &mut Series, trick: Trick) {
 
 fn set_marks(random: &mut Random, series: &mut Series) {
     for _ in 0..random.size(1, 4) {
-        let cells = series.bench.cells;
+        let Bench { form, cells, .. } = series.bench;
         if cells > 0 {
-            let index = random.size(0, cells - 1);
-            let mark = random.pick(&[0, 0, 1, 2, 255]);
+            let index = random.size(0, form.length(cells) - 1);
+            let old = series.bench.marks[index];
+            let mark = match form {
+                Form::Bytes => random.pick(&[0, 0, 1, 2, 255]),
+                Form::Packed => any_bits(random, old),
+            };
             series.call(Call::Mark(index, mark));
         }
+    }
+}
+
+/// Mostly one bit changed, in either way.
+fn any_bits(random: &mut Random, old: u8) -> u8 {
+    let bit = 1 << random.below(8);
+    let any = random.byte();
+    random.pick(&[old ^ bit, old ^ bit, old | bit, old & !bit, 0, 0xFF, any])
+}
+
+/// A wrong number of mark bytes for so many cells.
+fn other_mark_bytes(random: &mut Random, cells: usize) -> usize {
+    let right = Form::Packed.length(cells);
+    let some = random.size(0, right + 2);
+    let other = [
+        right + 1,
+        right.saturating_sub(1),
+        cells / 8,
+        cells,
+        0,
+        some,
+    ];
+    match random.pick(&other) {
+        other if other == right => right + 1,
+        other => other,
     }
 }
 
@@ -199,10 +253,11 @@ fn other_lengths(random: &mut Random, series: &mut Series) {
         _ => random.size(0, ROOM.min(2 * length)),
     };
     let lent = other(random, cells);
-    let lent_marks = if random.chance(1, 2) {
-        lent
-    } else {
-        other(random, marks)
+    let form = series.bench.form;
+    let lent_marks = match form {
+        _ if random.chance(1, 2) => form.length(lent),
+        Form::Bytes => other(random, marks),
+        Form::Packed => other_mark_bytes(random, lent),
     };
     series.call(Call::Lend(lent, lent_marks));
     match random.below(3) {
@@ -314,6 +369,7 @@ fn other_size(random: &mut Random, series: &mut Series) {
     };
     series.set(Number::Size, size);
     if random.chance(2, 3) {
-        series.call(Call::Lend(size, size));
+        let marks = series.bench.form.length(size);
+        series.call(Call::Lend(size, marks));
     }
 }

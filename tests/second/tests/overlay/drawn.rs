@@ -1,6 +1,9 @@
 //! Whether the drawn cases reach every row and every way of ending a run.
 
-use second::cases::overlays::{overlay_case, ways, MERGE_NUMBERS, WAYS};
+use second::cases::overlays::{
+    overlay_case, packed_ways, see_writes, ways, MERGE_NUMBERS, PACKED_WAYS, WAYS, WRITE_WAYS,
+};
+use second::form::{Form, FORMS};
 use second::patches::{parse, Bench, Case, Command};
 use std::collections::{BTreeMap, BTreeSet};
 
@@ -16,33 +19,67 @@ fn numbers(case: &Case) -> Vec<u32> {
     merges.map(number).collect()
 }
 
+/// What comes up in a case, by its form, and in its writes.
+fn found(case: &Case) -> Vec<String> {
+    let ways = match case.form {
+        Form::Bytes => ways(case),
+        Form::Packed => packed_ways(case),
+    };
+    let ways = ways.into_iter().map(str::to_string);
+    ways.chain(see_writes(case)).collect()
+}
+
+/// What has to come up in a form.
+fn wanted(form: Form) -> BTreeSet<String> {
+    let ways = match form {
+        Form::Bytes => &WAYS[..],
+        Form::Packed => &PACKED_WAYS,
+    };
+    let all = ways.iter().chain(&WRITE_WAYS);
+    all.map(|way| way.to_string()).collect()
+}
+
 #[test]
 fn every_row_and_way_comes_up() {
-    let (mut rows, mut found) = (BTreeMap::new(), BTreeMap::new());
-    for index in 0..CASES {
-        let case = overlay_case(1, index);
-        for number in numbers(&case) {
-            *rows.entry(number).or_insert(0) += 1;
+    for form in FORMS {
+        let (mut rows, mut counts) = (BTreeMap::new(), BTreeMap::new());
+        let cases = (0..CASES).map(|index| overlay_case(1, index));
+        for case in cases.filter(|case| case.form == form) {
+            for number in numbers(&case) {
+                *rows.entry(number).or_insert(0) += 1;
+            }
+            for way in found(&case) {
+                *counts.entry(way).or_insert(0) += 1;
+            }
         }
-        for way in ways(&case) {
-            *found.entry(way).or_insert(0) += 1;
-        }
+        println!("{form:?}: {rows:?}\n{counts:#?}");
+        assert_eq!(Vec::from_iter(rows.into_keys()), MERGE_NUMBERS);
+        assert_eq!(BTreeSet::from_iter(counts.into_keys()), wanted(form));
     }
-    println!("{rows:?}\n{found:#?}");
-    assert_eq!(Vec::from_iter(rows.into_keys()), MERGE_NUMBERS);
-    let found: BTreeSet<&str> = found.into_keys().collect();
-    assert_eq!(found, BTreeSet::from(WAYS));
 }
 
 /// So few cases, of any seed, reach all of it, too.
 #[test]
 fn few_cases_reach_all() {
-    for seed in 0..20 {
-        let cases = (0..2_000).map(|index| overlay_case(seed, index));
-        let found: BTreeSet<&str> = cases.flat_map(|case| ways(&case)).collect();
-        let missing: Vec<&&str> = WAYS.iter().filter(|way| !found.contains(*way)).collect();
-        assert!(missing.is_empty(), "seed {seed}: {missing:?}");
+    for seed in 0..12 {
+        let cases = (0..4_000).map(|index| overlay_case(seed, index));
+        let cases: Vec<Case> = cases.collect();
+        for form in FORMS {
+            let own = cases.iter().filter(|case| case.form == form);
+            let found: BTreeSet<String> = own.flat_map(found).collect();
+            let wanted = wanted(form);
+            let missing: Vec<&String> = wanted.difference(&found).collect();
+            assert!(missing.is_empty(), "seed {seed}: {missing:?}");
+        }
     }
+}
+
+/// About one of three has packed marks.
+#[test]
+fn both_forms_are_drawn() {
+    let packed = |index: &u64| overlay_case(1, *index).form == Form::Packed;
+    let number = (0..3_000).filter(packed).count();
+    assert!((900..1_100).contains(&number), "{number}");
 }
 
 #[test]
@@ -59,7 +96,7 @@ fn cases_can_be_handed_over() {
 fn every_cell_is_looked_at_before_a_merge() {
     for index in 0..2_000 {
         let case = overlay_case(4, index);
-        let mut bench = Bench::new(case.start);
+        let mut bench = Bench::new(case.form, case.start);
         let mut looked = &[][..];
         let mut numbers = numbers(&case).into_iter();
         for command in &case.commands {

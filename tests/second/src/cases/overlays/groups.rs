@@ -3,6 +3,7 @@
 
 use super::{any_image, any_length, any_start, spoil};
 use crate::cases::TOP;
+use crate::form::Form;
 use crate::overlay::Title;
 use crate::patches::Held;
 use crate::random::Random;
@@ -45,12 +46,12 @@ pub fn group(seed: u64, index: u64) -> Group {
     let random = &mut Random::new(seed, index);
     let length = any_length(random);
     let start = any_start(random, length);
-    let mut images = [(); 3].map(|()| any_image(random, length));
+    let mut images = [(); 3].map(|()| any_image(random, Form::Bytes, length));
     let [_, one, other] = &mut images;
     relate(random, one, other);
     for image in &mut images {
         if random.chance(1, 4) {
-            spoil(random, image);
+            spoil(random, Form::Bytes, image);
         }
     }
     let [base, one, other] = images;

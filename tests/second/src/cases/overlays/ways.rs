@@ -1,4 +1,4 @@
-//! What comes up in a case of a base image and patches.
+//! What comes up in a case of a base image and patches, with a byte for each mark.
 
 use crate::cases::TOP;
 use crate::overlay::{look, Word};
@@ -53,17 +53,17 @@ pub const WAYS: [&str; 42] = [
 
 /// What came up, in turn; some can be told more than once.
 #[derive(Default)]
-struct Seen(Vec<&'static str>);
+pub(super) struct Seen(pub Vec<&'static str>);
 
 impl Seen {
-    fn see(&mut self, name: &'static str, seen: bool) {
+    pub fn see(&mut self, name: &'static str, seen: bool) {
         self.0.extend(seen.then_some(name));
     }
 }
 
 /// Which of these come up.
 pub fn ways(case: &Case) -> Vec<&'static str> {
-    let mut bench = Bench::new(case.start);
+    let mut bench = Bench::new(case.form, case.start);
     let mut seen = Seen::default();
     let mut before = None;
     for command in &case.commands {

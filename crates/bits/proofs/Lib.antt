@@ -1,0 +1,7 @@
+pub mod DigitLaws
+pub mod PackLaws
+pub mod NextLaws
+pub mod PaintLaws
+pub mod SpanLaws
+pub mod SpareLaws
+pub mod CountLaws
