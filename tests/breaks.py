@@ -11,7 +11,8 @@ loads in parts, and tests/compare must notice that by way of the program calls. 
 over a base image; tests/compare must notice that by way of the program patches, and so must the oracle's own tests, and its
 test of the cases of crates/patches. An edit of kind 'packed' breaks it in packed marks; tests/compare must notice that by way
 of one of the three programs, and so must the oracle's own tests, and its tests of the cases of one of the three. An edit of
-kind 'calls' breaks the crates themselves; the program calls is compiled with it, without a proof, and the cases of
+kind 'errors' breaks it in how it takes single errors; there it stands in for the program vectors, and tests/compare must
+notice. An edit of kind 'calls' breaks the crates themselves; the program calls is compiled with it, without a proof, and the cases of
 crates/calls must notice. An edit of kind 'patches' does so with the program patches; the cases of crates/patches must notice,
 and so must the first cases that tests/compare draws, by the oracle's answers: `rt try` leaves no program that tests/compare
 itself could run. An edit names a file and replaces text that stands there exactly once, or several such texts in turn. With no
@@ -37,6 +38,8 @@ BUILT = {name: TARGET / "bin" / name.lower() for name in ("VECTORS", "CALLS", "P
 SOURCES = [READING / "reading.rs", READING / "tape.rs", BREAKS / "library" / "face.rs", TESTS.parent / "include" / "srec.h"]
 # fewer than in the usual runs: what is wrong is noticed soon
 SEED, CASES = "1", "20000"
+# a case of errors is a text for each digit
+TEXTS = "100"
 STRESS = {"STRESS_CASES": "500"}
 # the program patches reads so many characters at most, so that its drawn cases are several inputs
 INPUT, FIRST = 65536, "2000"
@@ -79,7 +82,7 @@ def cargo(package, test, *arguments):
 
 
 def drawn(package, test):
-    return cargo(package, test, "--", SEED, CASES)
+    return cargo(package, test, "--", SEED, TEXTS if test == "errors" else CASES)
 
 
 def library(edit, folder):
@@ -98,8 +101,9 @@ def library(edit, folder):
     return None
 
 
-def second(edit, folder, *groups):
-    """Edits a copy of tests/second and gives which tests notice. A group has a package and tests of it, one of which must."""
+def second(edit, folder, *groups, stands_in=None):
+    """Edits a copy of tests/second and gives which tests notice. A group has a package and tests of it, one of which must. The
+    copy may stand in for a program over the library."""
     tests = folder / "tests"
     for name in ("second", "compare"):
         shutil.copytree(TESTS / name, tests / name, ignore=shutil.ignore_patterns("target"))
@@ -107,6 +111,10 @@ def second(edit, folder, *groups):
         apply(edit, tests / "second" / "src")
     built = {name: os.environ.get(name, str(path)) for name, path in BUILT.items()}
     places = {**built, "CARGO_TARGET_DIR": str(folder / "target"), "RUSTFLAGS": "-A warnings"}
+    if stands_in:
+        command = ["cargo", "build", "--release", "--offline", "--quiet", "--bin", stands_in]
+        subprocess.run(command, cwd=tests / "second", env={**os.environ, **places}, check=True)
+        places[stands_in.upper()] = str(folder / "target" / "release" / stands_in)
     found = [noticing(tests / package, names, places) for package, *names in groups]
     return "; ".join(filter(None, found)) if all(found) or not edit else None
 
@@ -153,6 +161,11 @@ def packed(edit, folder):
     programs = ("vectors", "calls", "patches")
     copy_cases(folder, *programs)
     return second(edit, folder, ("compare", "overlay", "answers", "parts"), ("second", "packed"), ("second", *programs))
+
+
+def errors(edit, folder):
+    """Single errors, by tests/second in place of the program vectors."""
+    return second(edit, folder, ("compare", "errors"), stands_in="vectors")
 
 
 def edited(edit, folder):
@@ -222,7 +235,7 @@ def try_edit(kind, edit):
 def main():
     names = sys.argv[1:]
     results = []
-    for kind in (library, answers, parts, overlay, packed, calls, patches):
+    for kind in (library, answers, parts, overlay, packed, errors, calls, patches):
         edits = [None, *sorted((BREAKS / kind.__name__).glob("*.edit"))]
         whole = not names or kind.__name__ in names
         results += [try_edit(kind, edit) for edit in edits if whole or edit and edit.stem in names]
