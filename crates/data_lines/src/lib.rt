@@ -54,7 +54,7 @@ pub fn put_cells(
 {
     let mut at = start;
     let cells = memory.len();
-    let mut from = marks::next_marked(form, marks, cells, 0);
+    let mut from = runs::next_marked(form, marks, cells, 0);
     while from < cells {
         let to = size::run_end(format, base, form, marks, cells, from);
         at = put_run(
@@ -65,7 +65,7 @@ pub fn put_cells(
             base + from as u32,
             &memory[from..to],
         );
-        from = marks::next_marked(form, marks, cells, to);
+        from = runs::next_marked(form, marks, cells, to);
     }
     at
 }

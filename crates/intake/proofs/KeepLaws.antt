@@ -11,8 +11,8 @@ use Rattle.srec.specs.Reading.{Read, read}
 use Rattle.srec.specs.Reading.Read.{good, bad}
 use Rattle.srec.specs.Kinds.{Kind}
 use Rattle.srec.specs.Judging.{carried}
-use Rattle.srec_read.proofs.FieldLaws.{read-fields}
-use Rattle.storing.proofs.HeaderLaws.{S0Record, s0-record}
+use Rattle.srec_fields.proofs.FieldLaws.{read-fields}
+use Rattle.headers.proofs.HeaderLaws.{S0Record, s0-record}
 use Rattle.intake.specs.Tallies.{IsGood}
 
 -- a record that was read

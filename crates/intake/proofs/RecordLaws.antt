@@ -28,7 +28,7 @@ use Rattle.srec.specs.Judging.{carried}
 use Rattle.srec.specs.Formats.{srec}
 use Rattle.srec.proofs.SrecFormatLaws.{lawful}
 use Rattle.srec_step.proofs.JudgeLaws.{counting}
-use Rattle.storing.specs.Stores.{storedBy, Placeable}
+use Rattle.placing.specs.Stores.{storedBy, Placeable}
 use Rattle.parts.specs.Parts.{Known, Turn, stored, stepTurn, recordTurn, lineTurn}
 use Rattle.parts.specs.Parts.Turn.{halt, next}
 use Rattle.intake.specs.declared.Tally.{Tally}

@@ -61,7 +61,7 @@ fn keep_header(table: &[u32; 256], chars: &[u8], head: usize, header: &mut [u8])
     }
     // the count is that of 2 address bytes, the data and the checksum
     let count = hex::byte_of(table, chars[2], chars[3]) as usize - 3;
-    storing::store_data(table, &mut header[..count], chars, 8);
+    placing::store_data(table, &mut header[..count], chars, 8);
     count
 }
 
@@ -107,11 +107,11 @@ pub fn take_step(
         }
         Step::Put(next, address, count) => {
             let cells = memory.len();
-            let reason = marks::claim(form, marks, cells, base, address as usize, count);
+            let reason = claims::claim(form, marks, cells, base, address as usize, count);
             if reason != 0 {
                 return Turn::Refused(window::refuse(reason, number, place));
             }
-            storing::place_record(table, base, memory, chars);
+            placing::place_record(table, base, memory, chars);
             return Turn::Next(going_on(next, head));
         }
     }

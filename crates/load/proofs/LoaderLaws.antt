@@ -32,7 +32,7 @@ use Rattle.formats.specs.Choices.{formatOf}
 use Rattle.formats.proofs.ChoiceLaws.{limitsOf, lawfulOf}
 use Rattle.checking.specs.declared.Checked.the-variants.{Refused, Accepted}
 use Rattle.checking.specs.Answers.{checkedAs}
-use Rattle.storing.specs.Stores.{Accepts}
+use Rattle.placing.specs.Stores.{Accepts}
 
 -- the outcome of a load, by what its caller lends
 abbrev pub outcome : Format → Form → ℕ → List ℕ → List ℕ → List ℕ → Outcome

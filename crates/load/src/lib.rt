@@ -76,7 +76,7 @@ pub fn load_as(
             cells,
         } => {
             storing::store_all(format, &table, text, low, memory);
-            let header = storing::header_of(format, &table, text);
+            let header = headers::header_of(format, &table, text);
             let count = marks::count(form, marks, cells);
             return accepted_answer(header, entry, records, count);
         }

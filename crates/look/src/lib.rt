@@ -33,10 +33,10 @@ fn source_at(
     if at >= cells {
         return Source::Neither;
     }
-    if marks::is_marked(form, patch_marks, patch_memory.len(), at) {
+    if runs::is_marked(form, patch_marks, patch_memory.len(), at) {
         return Source::Patch;
     }
-    if marks::is_marked(form, base_marks, cells, at) {
+    if runs::is_marked(form, base_marks, cells, at) {
         return Source::Base;
     }
     Source::Neither
@@ -61,13 +61,13 @@ fn part_at<'a>(
         Source::Patch => {
             let from = (address - base) as usize;
             let cells = patch_memory.len();
-            let to = marks::run_end(form, patch_marks, cells, from, cells);
+            let to = runs::run_end(form, patch_marks, cells, from, cells);
             return &patch_memory[from..to];
         }
         Source::Base => {
             let from = (address - base) as usize;
-            let stop = marks::next_marked(form, patch_marks, patch_memory.len(), from);
-            let to = marks::run_end(form, base_marks, base_memory.len(), from, stop - from);
+            let stop = runs::next_marked(form, patch_marks, patch_memory.len(), from);
+            let to = runs::run_end(form, base_marks, base_memory.len(), from, stop - from);
             return &base_memory[from..to];
         }
         Source::Neither => return &base_memory[..0],

@@ -16,9 +16,9 @@ use Rattle.window.specs.Headers.{headerOf, row15}
 use Rattle.window.specs.Plans.{isPresent}
 use Rattle.marks.specs.declared.Form.{Form}
 use Rattle.marks.specs.Forms.{flags, stored, Tidy, row16In}
-use Rattle.marks.specs.Layers.{joined}
+use Rattle.layers.specs.Layers.{joined}
 use Rattle.marks.proofs.FormLaws.{no-bad, flags-good, clean-tidy}
-use Rattle.marks.proofs.LayerLaws.{joined-stored}
+use Rattle.layers.proofs.LayerLaws.{joined-stored}
 use Rattle.overlay.specs.declared.Merged.{Merged}
 use Rattle.overlay.specs.Layers.{laid, nonEmpty, patched}
 use Rattle.overlay.specs.Refusals.{row1BothIn, badOf, firstRow, mergeRefusalIn}

@@ -90,8 +90,8 @@ pub fn merge_as(
     if refusal.reason != 0 {
         return refused(refusal);
     }
-    marks::lay(base_memory, patch_memory, form, patch_marks);
-    marks::join(base_marks, patch_marks);
+    layers::lay(base_memory, patch_memory, form, patch_marks);
+    layers::join(base_marks, patch_marks);
     let header = merged_header(base_header, patch_header);
     let entry = merged_entry(base_entry, patch_entry);
     Merged {

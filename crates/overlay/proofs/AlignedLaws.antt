@@ -10,7 +10,7 @@ use borrow.Author.Tests.{leb-true}
 use Rattle.lists.proofs.TestLaws.{by-test}
 use Rattle.window.specs.Windows.{firstBadMark}
 use Rattle.window.specs.Images.{Image, image, marksOf, overlaid}
-use Rattle.marks.specs.Layers.{joined}
+use Rattle.layers.specs.Layers.{joined}
 use Rattle.overlay.specs.Layers.{merged}
 
 -- every mark is 0 or 1: row 16 does not apply

@@ -8,7 +8,7 @@ use lib.Bits.{or-zero-r}
 use lib.ListN.{length, getD, replicate}
 use lib.Seq.{take-append-seam}
 use Rattle.window.specs.Images.{Image, image, marksOf, overlaid}
-use Rattle.marks.specs.Layers.{joined}
+use Rattle.layers.specs.Layers.{joined}
 use Rattle.overlay.specs.Layers.{merged, Content, patched}
 use Rattle.overlay.specs.Refusals.{passes}
 use Rattle.overlay.specs.Merges.{Lent, windowAt, contentOf, refusalOf, mergeAnswer, memoryAfter, marksAfter, leaves}

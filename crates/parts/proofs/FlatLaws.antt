@@ -16,7 +16,7 @@ use Rattle.window.specs.Marks.{claimRow}
 use Rattle.window.proofs.RowLaws.{allowed-inv}
 use Rattle.window.proofs.MarkLaws.{granted-inside, over-window, claimed-length}
 use Rattle.bits.proofs.PackLaws.{Binary, binary-replicate}
-use Rattle.marks.proofs.GrantLaws.{claimed-binary}
+use Rattle.claims.proofs.GrantLaws.{claimed-binary}
 use Rattle.text.specs.Scan.{State, Step}
 use Rattle.text.specs.Scan.Step.{refuse, skip, title, put, finish}
 use Rattle.srec.specs.Lines.{isEnd}

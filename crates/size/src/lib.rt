@@ -33,7 +33,7 @@ pub fn run_end(
     ensures { λ r. ⌜ r ≡ at + runOn (suc (followOf format (base + at))) (drop at (flags form cells (now (marks .entry)))) ⌝ }
 {
     let most = formats::most_cells(format, base as usize + at);
-    marks::run_end(form, marks, cells, at, most)
+    runs::run_end(form, marks, cells, at, most)
 }
 
 // The larger of two addresses.
@@ -59,13 +59,13 @@ pub fn size_of(
     let mut records: usize = 0;
     let mut marked: usize = 0;
     let mut largest = entry;
-    let mut i = marks::next_marked(form, marks, cells, 0);
+    let mut i = runs::next_marked(form, marks, cells, 0);
     while i < cells {
         let j = run_end(format, base, form, marks, cells, i);
         records += 1;
         marked += j - i;
         largest = larger(largest, base + (j - 1) as u32);
-        i = marks::next_marked(form, marks, cells, j);
+        i = runs::next_marked(form, marks, cells, j);
     }
     Size {
         records,

@@ -24,10 +24,10 @@ use Rattle.srec.specs.Reading.Read.{good, bad}
 use Rattle.srec.specs.Judging.{row8, row10, row11, carried, judge, judged}
 use Rattle.srec.specs.Formats.{srec}
 use Rattle.lists.proofs.TestLaws.{by-test}
-use Rattle.srec_read.specs.declared.Record.the-variants.{Bad}
-use Rattle.srec_read.specs.Records.{widthOr0, asRecord}
-use Rattle.srec_read.proofs.KindLaws.{Known, known-kind, type-of-kind}
-use Rattle.srec_read.proofs.FieldLaws.{read-fields, Got}
+use Rattle.srec_fields.specs.declared.Record.the-variants.{Bad}
+use Rattle.srec_fields.specs.Records.{widthOr0, asRecord}
+use Rattle.srec_fields.proofs.KindLaws.{Known, known-kind, type-of-kind}
+use Rattle.srec_fields.proofs.FieldLaws.{read-fields, Got}
 
 -- ---- kinds by their character
 

@@ -14,7 +14,7 @@ use Rattle.text.specs.Lines.{front}
 use Rattle.text.proofs.LineLaws.{Free, all-front, hex-free}
 use Rattle.srec.specs.Lines.{isEnd}
 use Rattle.srec.specs.Kinds.{Kind, kindOf}
-use Rattle.srec_read.proofs.FieldLaws.{Fields, Got}
+use Rattle.srec_fields.proofs.FieldLaws.{Fields, Got}
 
 -- a character that is neither LF nor CR
 not-end : (c : ℕ) → (c ≡ 10 → ⊥) → (c ≡ 13 → ⊥) → isEnd c ≡ false

@@ -1,5 +1,5 @@
 // What a record does: it is read, and judged against what came before it (rows 8, 10 and 11, on numbers alone).
-use srec_read::Record;
+use srec_fields::Record;
 use text::State;
 use text::Step;
 use text::Sure;
@@ -46,7 +46,7 @@ fn judge(state: State, kind: u8, address: u32, count: usize, place: usize) -> St
     if kind > b'5' {
         return Step::Finish(next, Entry::Present(address));
     }
-    let width = srec_read::width_of(kind);
+    let width = srec_fields::width_of(kind);
     if address as usize + count > limit(width) {
         return Step::Refuse(11, place, 0);
     }
@@ -83,7 +83,7 @@ pub fn good_step(table: &[u32; 256], state: State, chars: &[u8], place: usize) -
     requires { ⌜ (state .number + length (now chars) < 2 ^ 64) × (state .records + length (now chars) < 2 ^ 64) × (state .cells + length (now chars) < 2 ^ 64) ⌝ }
     ensures { λ r. ⌜ SureIs srec state place (now (chars .entry)) r ⌝ }
 {
-    let answer = srec_read::read_good(table, chars);
+    let answer = srec_good::read_good(table, chars);
     let Record::Good(kind, address, count) = answer else {
         return Sure::No;
     };

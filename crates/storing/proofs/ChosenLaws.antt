@@ -1,14 +1,10 @@
--- What a line leaves, and a text's header, are those of the chosen format.
+-- What a line leaves is that of the chosen format.
 use mathlib.Core.Path.{_≡_, sym, ap, _∙_, subst}
 use Prim.Native.Nat.{ℕ}
 use mathlib.Core.List.{List}
-use Rattle.window.specs.declared.Header.{Header}
-use Rattle.text.specs.Lines.{lines}
-use Rattle.text.specs.Finds.{firstHeader}
-use Rattle.window.specs.Headers.{headerOf}
 use Rattle.formats.specs.declared.Format.{Format}
 use Rattle.formats.specs.Choices.{formatOf}
-use Rattle.storing.specs.Stores.{storedBy, Placeable}
+use Rattle.placing.specs.Stores.{storedBy, Placeable}
 
 module _ (format choice : Format) (e : format ≡ choice) where
   -- a line that has room
@@ -20,8 +16,3 @@ module _ (format choice : Format) (e : format ≡ choice) where
   pub stored-chosen : (base : ℕ) (m cs m′ : List ℕ) → m′ ≡ storedBy base m (formatOf choice .part cs)
       → m′ ≡ storedBy base m (formatOf format .part cs)
   stored-chosen base m cs m′ q = q ∙ ap (λ (x : Format). storedBy base m (formatOf x .part cs)) (sym e)
-
-  -- a header
-  pub header-chosen : (text : List ℕ) (h : Header) → h ≡ headerOf (firstHeader (formatOf choice .part) (lines (formatOf choice .gap) 0 text))
-      → h ≡ headerOf (firstHeader (formatOf format .part) (lines (formatOf format .gap) 0 text))
-  header-chosen text h q = q ∙ ap (λ (x : Format). headerOf (firstHeader (formatOf x .part) (lines (formatOf x .gap) 0 text))) (sym e)

@@ -25,15 +25,15 @@ use Rattle.text.specs.Load.{memoryAfter}
 use Rattle.text.proofs.FindLaws.{part, Next, next-is}
 use Rattle.text.proofs.TurnLaws.{Walk, walk-start, walk-none, walk-refused, walk-skip, walk-title, walk-ended, walk-store, walk-put}
 use Rattle.text.proofs.FormatLaws.{Limits, Lawful, IsRefusal}
-use Rattle.tape_step.proofs.LineFieldLaws.{length-at}
+use Rattle.tape_read.proofs.LineFieldLaws.{length-at}
 use Rattle.formats.specs.declared.Format.{Format as Choice}
 use Rattle.formats.specs.declared.Format.the-variants.{Records, Tape}
 use Rattle.formats.specs.Choices.{formatOf}
 use Rattle.formats.proofs.ChoiceLaws.{limitsOf, lawfulOf}
 use Rattle.lines.specs.Counts.{sizeOf, LongAsCounted}
-use Rattle.storing.specs.Stores.{storedBy, Placeable, Accepts}
-use Rattle.storing.proofs.StoreLaws.{Readable, readable}
-use Rattle.storing.proofs.LineLaws.{line-readable}
+use Rattle.placing.specs.Stores.{storedBy, Placeable, Accepts}
+use Rattle.placing.proofs.StoreLaws.{Readable, readable}
+use Rattle.placing.proofs.LineLaws.{line-readable}
 
 -- memory shows the image of a walk
 pub record Walking (F : Format) (text : List ℕ) (base : ℕ) (m₀ m : List ℕ) (at : ℕ) : Type 0 where

@@ -23,9 +23,10 @@ use Rattle.tape.specs.Reading.{Read, fault, lengthIn, dataIn, covered, checkIn,
 use Rattle.tape.specs.Reading.Read.{good, bad}
 use Rattle.tape.specs.Judging.{checkOf, row7, row10, row11, carries, carried, judge, judged}
 use Rattle.tape.specs.Formats.{tape}
-use Rattle.tape_step.specs.declared.Line.the-variants.{Bad}
-use Rattle.tape_step.specs.Answers.{asLine, passing}
-use Rattle.tape_step.proofs.LineFieldLaws.{bs, length-data, LineGot}
+use Rattle.tape_read.specs.declared.Line.the-variants.{Bad}
+use Rattle.tape_read.specs.Answers.{asLine}
+use Rattle.tape_step.specs.Answers.{passing}
+use Rattle.tape_read.proofs.LineFieldLaws.{bs, length-data, LineGot}
 
 -- ---- each answer of `judge`
 
@@ -66,12 +67,6 @@ no-want cs =
   where
     no : (reason offset : ℕ) → Of NoWant (fault reason offset)
     no reason offset = record { got = refl }
-
--- the check that a line has is the right one
-pub no-row-7 : (edition : Edition) (chars : List ℕ) (given right : ℕ) → given ≡ checkIn (bs chars) → right ≡ checkOf edition (covered (bs chars))
-    → given ≡ right → row7 edition (bs chars) ≡ false
-unfolding row7
-no-row-7 edition chars given right e f h = rw (eq-eqb (checkIn (bs chars)) (checkOf edition (covered (bs chars))) (sym e ∙ h ∙ f))
 
 module _ (edition : Edition) (place : ℕ) (n : State) (chars : List ℕ) where
   -- the step that the definitions take

@@ -59,7 +59,7 @@ fn first_above(base: u32, form: Form, marks: &[u8], cells: usize) -> usize
     ensures { λ r. ⌜ r ≡ firstAbove base (flags form cells (now (marks .entry))) ⌝ }
 {
     let low = low_cells(base, cells);
-    marks::next_marked(form, marks, cells, low)
+    runs::next_marked(form, marks, cells, low)
 }
 
 // The length of the canonical tape.

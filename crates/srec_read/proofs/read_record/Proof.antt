@@ -12,11 +12,11 @@ use Rattle.hex.specs.Digits.{bytes, firstBad}
 use Rattle.hex.specs.Numbers.{number}
 use Rattle.srec.specs.Kinds.{kindOf, known}
 use Rattle.srec.specs.Reading.{row6}
-use Rattle.srec_read.specs.declared.Record.the-variants.{Good, Bad}
-use Rattle.srec_read.specs.Records.{asRecord}
-use Rattle.srec_read.proofs.KindLaws.{known-width, row-6-inv}
-use Rattle.srec_read.proofs.FieldLaws.{count, count-at}
-use Rattle.srec_read.proofs.ReadLaws.{at-place, row-3, row-4, Head, head-of, row-5, row-6, Sized, wanted, wanted-by, row-7, good-record}
+use Rattle.srec_fields.specs.declared.Record.the-variants.{Good, Bad}
+use Rattle.srec_fields.specs.Records.{asRecord}
+use Rattle.srec_fields.proofs.KindLaws.{known-width, row-6-inv}
+use Rattle.srec_fields.proofs.FieldLaws.{count, count-at}
+use Rattle.srec_fields.proofs.ReadLaws.{at-place, row-3, row-4, Head, head-of, row-5, row-6, Sized, wanted, wanted-by, row-7, good-record}
 use borrow.Author.Needs.{needs}
 use Rattle.srec_read.proofs.read_record.Statement.{statement}
 use Rattle.srec_read.proofs.read_record.Tie as tie

@@ -1,9 +1,9 @@
 -- `good_step` meets its contract: a good record is judged, and has no line end inside; of no answer nothing is said.
 use mathlib.Core.Path.{subst}
 use Rattle.srec.specs.Reading.{read}
-use Rattle.srec_read.specs.declared.Record.{Record}
-use Rattle.srec_read.specs.Records.{GoodIs}
-use Rattle.srec_read.proofs.FieldLaws.{Got, got}
+use Rattle.srec_fields.specs.declared.Record.{Record}
+use Rattle.srec_fields.specs.Records.{GoodIs}
+use Rattle.srec_fields.proofs.FieldLaws.{Got, got}
 use Rattle.srec_step.proofs.JudgeLaws.{judge-fits, step-good}
 use Rattle.srec_step.proofs.RecordGapLaws.{good-line}
 use borrow.Author.Needs.{needs}

@@ -4,7 +4,7 @@ use Prim.Native.Nat.{ℕ}
 use native.Mathlib.Omega.{arith}
 use Rattle.srec.specs.Kinds.{Kind, kindOf, known}
 use Rattle.srec.specs.Kinds.Kind.{Data}
-use Rattle.srec_read.specs.Records.{widthOr0}
+use Rattle.srec_fields.specs.Records.{widthOr0}
 use Rattle.srec_step.proofs.JudgeLaws.{Sort, sort-of, row-8, passed-s0, row-10, passed-s5, finished, row-11, stored}
 use borrow.Author.Needs.{needs}
 use Rattle.srec_step.proofs.judge.Statement.{statement}

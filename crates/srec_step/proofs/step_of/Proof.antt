@@ -1,7 +1,7 @@
 -- `step_of` meets its contract: a record that cannot be read is refused, and another is judged.
 use mathlib.Core.Path.{sym, ap, _∙_}
 use Rattle.srec_step.specs.Refusals.{refusing}
-use Rattle.srec_read.proofs.FieldLaws.{Got, got}
+use Rattle.srec_fields.proofs.FieldLaws.{Got, got}
 use Rattle.srec_step.proofs.JudgeLaws.{judge-fits, step-good, step-bad}
 use borrow.Author.Needs.{needs}
 use Rattle.srec_step.proofs.step_of.Statement.{statement}

@@ -1,0 +1,2 @@
+pub mod LineFieldLaws
+pub mod LineReadLaws
