@@ -45,7 +45,7 @@ pub fn begin(bench: Bench, memory: &[u8], marks: &mut [u8]) -> Bench
     let mut b = bench;
     let before = bench.session;
     let form = before.form;
-    let session = session::begin_as(form, bench.base, &memory[..cells], &mut marks[..lent]);
+    let session = begin::begin_as(form, bench.base, &memory[..cells], &mut marks[..lent]);
     b.session = session;
     b
 }
@@ -112,7 +112,7 @@ pub fn end(bench: Bench, memory: &mut [u8], marks: &mut [u8]) -> Bench
     let cells = marks::smaller(bench.cells, ROOM);
     let lent = marks::smaller(bench.marks, ROOM);
     let mut b = bench;
-    let ended = feed::end(
+    let ended = end::end(
         session,
         bench.base,
         &mut memory[..cells],

@@ -132,7 +132,7 @@ fn run_lent(
 {
     fill_cells(memory);
     let n = marks::smaller(marks::bytes_for(form, cells), cells);
-    let session = session::begin_as(form, base, &memory[..cells], &mut marks[..n]);
+    let session = begin::begin_as(form, base, &memory[..cells], &mut marks[..n]);
     let bench = Bench {
         session,
         kept: session,

@@ -60,7 +60,7 @@ pub fn convert(
     ensures marks { λ _. ⌜ now (marks .exit) ≡ marksAfter (now (marks .entry)) (load (windowOf base (now (memory .entry)) (now (marks .entry))) (plan (formatOf format) (now (text .entry)))) ⌝ }
     ensures output { λ _. ⌜ now (out .exit) ≡ outputOf (formatOf format) (now (out .entry)) (windowOf base (now (memory .entry)) (now (marks .entry))) (now (text .entry)) ⌝ }
 {
-    let loaded = load::load_as(format, Form::Bytes, text, base, memory, marks);
+    let loaded = loader::load_as(format, Form::Bytes, text, base, memory, marks);
     let refusal = loaded.refusal;
     if refusal.reason != 0 {
         return Converted::Refused(refusal);

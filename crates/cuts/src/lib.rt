@@ -56,9 +56,9 @@ pub extern "C" fn srec_load_cut(
     ensures marks { λ _. ⌜ now (marks .exit) ≡ inParts (windowOf base (now (memory .entry)) (now (marks .entry))) (partsOf cut (now (text .entry))) .marks ⌝ }
 {
     let size = at_least_one(cut);
-    let begun = session::begin(base, memory, marks);
+    let begun = begin::begin(base, memory, marks);
     let fed = feed_parts(begun, text, size, base, memory, marks);
-    let ended = feed::end(fed, base, memory, marks);
+    let ended = end::end(fed, base, memory, marks);
     let loaded = ended.loaded;
     let refusal = loaded.refusal;
     refusal.reason

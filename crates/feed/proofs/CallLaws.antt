@@ -18,7 +18,7 @@ use Rattle.parts.specs.Forms.{inForm, row1LaterIn, feedAs}
 use Rattle.parts.proofs.SoundLaws.{allowed-sound}
 use Rattle.session.specs.declared.Session.{Session}
 use Rattle.session.specs.Sessions.{goingOf, statusOf}
-use Rattle.feed.proofs.FormLaws.{allows, stopped-in}
+use Rattle.session.proofs.FormLaws.{allows, stopped-in}
 
 module _ (s : Session) (base : ℕ) (memory marks part : List ℕ) where
   abbrev form : Form

@@ -1,3 +1,1 @@
-pub mod FormLaws
 pub mod CallLaws
-pub mod EndLaws

@@ -31,8 +31,8 @@ use Rattle.srec_step.proofs.JudgeLaws.{counting}
 use Rattle.placing.specs.Stores.{storedBy, Placeable}
 use Rattle.parts.specs.Parts.{Known, Turn, stored, stepTurn, recordTurn, lineTurn}
 use Rattle.parts.specs.Parts.Turn.{halt, next}
-use Rattle.intake.specs.declared.Tally.{Tally}
-use Rattle.intake.specs.Tallies.{stateOf, entryOf, knownOf, IsGood}
+use Rattle.tally.specs.declared.Tally.{Tally}
+use Rattle.tally.specs.Tallies.{stateOf, entryOf, knownOf, IsGood}
 
 module _ (base place : ℕ) (memory marks : List ℕ) (k : Known) where
   -- a line that is not empty is a record

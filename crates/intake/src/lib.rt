@@ -1,19 +1,13 @@
-// The records of a load in parts, one after the other: each is judged, claimed and stored as it comes.
-use formats::Format;
+// One record of a load in parts: judged, claimed and stored as it comes.
 use marks::Form;
-use text::State;
+use tally::Tally;
+use tally::Turn;
 use text::Step;
-use text::Sure;
-use text::Taken;
-use window::Entry;
-use window::Refusal;
 ghost use mathlib.Core.Path.{_≡_};
-ghost use mathlib.Core.Bool.{false};
 ghost use mathlib.Core.List.{[]};
-ghost use Prim.Native.Nat.{_+_, _^_, _≤_, _<_};
+ghost use Prim.Native.Nat.{_+_, _^_, _<_};
 ghost use lib.ListN.{length, take};
 ghost use Rattle.hex.specs.Tables.{digitTable};
-ghost use Rattle.window.specs.declared.Entry.the-variants.{Absent};
 ghost use Rattle.text.specs.Steps.{stateWith, asStep};
 ghost use Rattle.text.specs.Terms.{headerIn};
 ghost use Rattle.srec.specs.Reading.{read};
@@ -21,34 +15,7 @@ ghost use Rattle.srec.specs.Judging.{carried};
 ghost use Rattle.srec.specs.Formats.{srec};
 ghost use Rattle.parts.specs.Parts.{recordTurn};
 ghost use Rattle.marks.specs.Forms.{flags, Tidy};
-ghost use Rattle.intake.specs.Tallies.{stateOf, entryOf, IsGood, Took, TidyTurn, Roomy};
-ghost use Rattle.intake.specs.Takes.{nextIn};
-
-// What the records read so far say: their numbers, the length of the header, and once a terminator was read its entry.
-pub struct Tally {
-    pub state: State,
-    pub head: usize,
-    pub ended: bool,
-    pub entry: Entry,
-}
-
-// What one line comes to: a refusal, or the records with it.
-pub enum Turn {
-    Refused(Refusal),
-    Next(Tally),
-}
-
-// The records before a terminator.
-pub fn going_on(state: State, head: usize) -> Tally
-    ensures { λ r. ⌜ r ≡ record { state = state; head = head; ended = false; entry = Absent } ⌝ }
-{
-    Tally {
-        state,
-        head,
-        ended: false,
-        entry: Entry::Absent,
-    }
-}
+ghost use Rattle.tally.specs.Tallies.{stateOf, entryOf, IsGood, Took, TidyTurn};
 
 // Keeps the data of an S0 as the header, of which `head` bytes are kept so far, and answers how many are kept now. Another record
 // leaves the header as it is.
@@ -103,7 +70,7 @@ pub fn take_step(
         }
         Step::Pass(next) => {
             let kept = keep_header(table, chars, head, header);
-            return Turn::Next(going_on(next, kept));
+            return Turn::Next(tally::going_on(next, kept));
         }
         Step::Put(next, address, count) => {
             let cells = memory.len();
@@ -112,40 +79,7 @@ pub fn take_step(
                 return Turn::Refused(window::refuse(reason, number, place));
             }
             placing::place_record(table, base, memory, chars);
-            return Turn::Next(going_on(next, head));
+            return Turn::Next(tally::going_on(next, head));
         }
     }
-}
-
-// The next line of a part whose end stands in it, by looking for that end.
-fn search_next(table: &[u32; 256], state: State, part: &[u8], at: usize, total: usize) -> Taken
-    requires { ⌜ (now table ≡ digitTable) × (at ≤ length (now part)) × Roomy total state (length (now part)) ⌝ }
-    ensures { λ r. ⌜ r ≡ nextIn total state (now (part .entry)) at ⌝ }
-{
-    let from = at + lines::count_gaps(Format::Records, &part[at..]);
-    let to = from + lines::count_chars(Format::Records, &part[from..]);
-    if to == part.len() {
-        return Taken::Nothing;
-    }
-    let step = srec_step::step_of(table, state, &part[from..to], total + from);
-    Taken::Line { from, to, step }
-}
-
-// The next line of a part whose end stands in it, from a place on, and what it does behind the records before it; `total` characters
-// arrived before the part. Its count says where it may end, and one walk over its digits whether it is good. That way answers only
-// for a good record with a line end behind it; for all else the end is searched.
-pub fn take_next(table: &[u32; 256], state: State, part: &[u8], at: usize, total: usize) -> Taken
-    requires { ⌜ (now table ≡ digitTable) × (at ≤ length (now part)) × Roomy total state (length (now part)) ⌝ }
-    ensures { λ r. ⌜ r ≡ nextIn total state (now (part .entry)) at ⌝ }
-{
-    let from = at + lines::count_gaps(Format::Records, &part[at..]);
-    let to = lines::counted_end(Format::Records, table, part, from);
-    if to == part.len() {
-        return search_next(table, state, part, at, total);
-    }
-    let answer = srec_step::good_step(table, state, &part[from..to], total + from);
-    let Sure::Yes(step) = answer else {
-        return search_next(table, state, part, at, total);
-    };
-    Taken::Line { from, to, step }
 }

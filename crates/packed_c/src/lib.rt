@@ -26,7 +26,7 @@ pub extern "C" fn srec_load_packed(
     ensures memory { λ _. ⌜ now (memory .exit) ≡ memoryAfter (now (memory .entry)) (loadIn Packed (windowOf base (now (memory .entry)) (now (marks .entry))) (plan srec (now (text .entry)))) ⌝ }
     ensures marks { λ _. ⌜ now (marks .exit) ≡ marksLeft Packed (now (marks .entry)) (loadIn Packed (windowOf base (now (memory .entry)) (now (marks .entry))) (plan srec (now (text .entry)))) ⌝ }
 {
-    let loaded = load::load_as(Format::Records, Form::Packed, text, base, memory, marks);
+    let loaded = loader::load_as(Format::Records, Form::Packed, text, base, memory, marks);
     let refusal = loaded.refusal;
     refusal.reason
 }

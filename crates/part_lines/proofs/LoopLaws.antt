@@ -23,9 +23,9 @@ use Rattle.parts.specs.Parts.Status.{going}
 use Rattle.parts.specs.Parts.Turn.{halt, next}
 use Rattle.parts.specs.Stretches.{fresh, keptAll}
 use Rattle.parts.proofs.StretchLaws.{fed-ends, fed-stretch, line-first}
-use Rattle.intake.specs.declared.Tally.{Tally}
-use Rattle.intake.specs.Tallies.{stateOf, entryOf, knownOf, Roomy}
-use Rattle.intake.specs.Takes.{beginOf, endOf, nextIn}
+use Rattle.tally.specs.declared.Tally.{Tally}
+use Rattle.tally.specs.Tallies.{stateOf, entryOf, knownOf}
+use Rattle.part_next.specs.Takes.{beginOf, endOf, nextIn, Roomy}
 use Rattle.intake.proofs.RecordLaws.{some-line}
 use Rattle.part_lines.specs.Rests.{Few}
 use Rattle.part_lines.proofs.FreeLaws.{all-free}

@@ -16,10 +16,10 @@ use Rattle.parts.specs.Parts.{Known, Going, Stage, stage, stopped, Turn, lineTu
 use Rattle.parts.specs.Parts.Status.{going, halted}
 use Rattle.parts.specs.Parts.Turn.{halt, next}
 use Rattle.parts.specs.Stretches.{fresh, keptAll}
-use Rattle.intake.specs.declared.Tally.{Tally}
-use Rattle.intake.specs.declared.Turn.{Turn as Taken}
-use Rattle.intake.specs.declared.Turn.the-variants.{Refused, Next}
-use Rattle.intake.specs.Tallies.{knownOf, Took, TidyTurn}
+use Rattle.tally.specs.declared.Tally.{Tally}
+use Rattle.tally.specs.declared.Turn.{Turn as Taken}
+use Rattle.tally.specs.declared.Turn.the-variants.{Refused, Next}
+use Rattle.tally.specs.Tallies.{knownOf, Took, TidyTurn}
 use Rattle.part_lines.specs.declared.Rest.{Rest}
 use Rattle.part_lines.specs.declared.Rest.the-variants.{From, Refused as RestRefused}
 use Rattle.part_lines.specs.Rests.{behind, TidyRest, turnAs}

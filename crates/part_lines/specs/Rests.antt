@@ -11,9 +11,9 @@ use Rattle.srec.specs.Lines.{isEnd}
 use Rattle.parts.specs.Parts.{Stage, stage, stopped}
 use Rattle.parts.specs.Parts.Status.{going}
 use Rattle.parts.specs.Stretches.{fresh, keptAll}
-use Rattle.intake.specs.declared.Turn.{Turn}
-use Rattle.intake.specs.declared.Turn.the-variants.{Next, Refused as TurnRefused}
-use Rattle.intake.specs.Tallies.{knownOf}
+use Rattle.tally.specs.declared.Turn.{Turn}
+use Rattle.tally.specs.declared.Turn.the-variants.{Next, Refused as TurnRefused}
+use Rattle.tally.specs.Tallies.{knownOf}
 use Rattle.part_lines.specs.declared.Rest.{Rest}
 use Rattle.part_lines.specs.declared.Rest.the-variants.{Refused, From}
 

@@ -1,8 +1,8 @@
 // The lines of a part of a text: those whose ends stand in it, and the one that the end of a part cut.
 use formats::Format;
-use intake::Tally;
-use intake::Turn;
 use marks::Form;
+use tally::Tally;
+use tally::Turn;
 use text::Taken;
 use window::Refusal;
 ghost use mathlib.Core.Path.{_≡_};
@@ -16,7 +16,7 @@ ghost use Rattle.parts.specs.Parts.{stage, lineTurn, fed};
 ghost use Rattle.parts.specs.Parts.Status.{going};
 ghost use Rattle.parts.specs.Stretches.{fresh};
 ghost use Rattle.marks.specs.Forms.{flags, Tidy};
-ghost use Rattle.intake.specs.Tallies.{knownOf, Took, TidyTurn};
+ghost use Rattle.tally.specs.Tallies.{knownOf, Took, TidyTurn};
 ghost use Rattle.session.specs.Sessions.{visible};
 ghost use Rattle.part_lines.specs.Rests.{Few, behind, RestIn, TidyRest, turnAs};
 
@@ -47,7 +47,7 @@ pub fn take_lines(
     let mut at = first;
     loop {
         let state = now.state;
-        let taken = intake::take_next(table, state, part, at, total);
+        let taken = part_next::take_next(table, state, part, at, total);
         let Taken::Line { from, to, step } = taken else {
             let from = at + lines::count_gaps(Format::Records, &part[at..]);
             return Rest::From(from, now);
@@ -103,8 +103,8 @@ pub fn close_line(
     ensures { λ r. ⌜ Took (lineTurn base place (take 515 (map visible (take (min held 515) (now (line .entry))) ++ now (chars .entry))) (now (memory .entry)) (flags form (length (now (memory .entry))) (now (marks .entry))) (knownOf tally (now (header .entry)))) r (now (header .exit)) (now (memory .exit)) (flags form (length (now (memory .entry))) (now (marks .exit))) (now (memory .entry)) ⌝ }
     ensures { λ r. ⌜ TidyTurn form (length (now (memory .entry))) r (now (marks .exit)) ⌝ }
 {
-    let n = session::hold(line, held, chars);
-    session::hide_ends(&mut line[..n]);
+    let n = holding::hold(line, held, chars);
+    holding::hide_ends(&mut line[..n]);
     line[n] = b'\n';
     let end = n + 1;
     let rest = take_lines(

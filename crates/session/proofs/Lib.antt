@@ -1,3 +1,3 @@
 pub mod HoldLaws
-pub mod VisibleLaws
 pub mod SessionLaws
+pub mod FormLaws

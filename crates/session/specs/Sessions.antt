@@ -7,7 +7,7 @@ use lib.ListN.{take}
 use Rattle.srec.specs.Lines.{isEnd}
 use Rattle.parts.specs.Parts.{Going, Status}
 use Rattle.parts.specs.Parts.Status.{going, halted}
-use Rattle.intake.specs.Tallies.{knownOf}
+use Rattle.tally.specs.Tallies.{knownOf}
 use Rattle.session.specs.declared.Session.{Session}
 
 -- a held character: no call adds a line end to them, and where one stands among them it counts as NUL

@@ -1,3 +1,1 @@
-pub mod PieceLaws
-pub mod LengthLaws
 pub mod RecordRowLaws

@@ -18,8 +18,8 @@ use Rattle.window.specs.Headers.{row15}
 use Rattle.formats.specs.declared.Format.the-variants.{Records}
 use Rattle.size.specs.declared.Size.{Size}
 use Rattle.size.specs.Sizes.{sizeOf}
-use Rattle.srec_write.specs.Pieces.{lengthFor}
-use Rattle.srec_write.proofs.LengthLaws.{length-canonical}
+use Rattle.srec_text.specs.Pieces.{lengthFor}
+use Rattle.srec_text.proofs.LengthLaws.{length-canonical}
 
 -- what is computed before the text is written is its length
 pub need-is : (W : Window) (header : List ℕ) (e : ℕ) (size : Size) (width need : ℕ) → size ≡ sizeOf Records (shown W) e

@@ -41,14 +41,14 @@ fn parts_left(left: usize, n: usize, session: Session) -> usize
 // Loads standard input part by part. The count of parts ends no load that goes on: behind so many full ones row 20 has refused it.
 fn load_input(memory: &mut [u8], marks: &mut [u8]) -> Loaded {
     let mut part = [0u8; PART];
-    let mut session = session::begin(BASE, memory, marks);
+    let mut session = begin::begin(BASE, memory, marks);
     let mut left = PARTS;
     while left > 0 {
         let n = io::read_full(STDIN_FILENO, &mut part);
         session = feed::feed(session, &part[..n], BASE, memory, marks);
         left = parts_left(left, n, session);
     }
-    let ended = feed::end(session, BASE, memory, marks);
+    let ended = end::end(session, BASE, memory, marks);
     ended.loaded
 }
 

@@ -21,8 +21,8 @@ use Rattle.parts.specs.Stretches.{fresh, keptAll}
 use Rattle.parts.proofs.GrowthLaws.{TurnKeeps}
 use Rattle.parts.proofs.SoundLaws.{Sound, roomy}
 use Rattle.parts.proofs.StretchLaws.{fed-stretch}
-use Rattle.intake.specs.declared.Tally.{Tally}
-use Rattle.intake.specs.Tallies.{knownOf}
+use Rattle.tally.specs.declared.Tally.{Tally}
+use Rattle.tally.specs.Tallies.{knownOf}
 use Rattle.session.specs.declared.Session.{Session}
 use Rattle.session.specs.Sessions.{goingOf, statusOf}
 use Rattle.session.proofs.SessionLaws.{shows-going, clear-marks}

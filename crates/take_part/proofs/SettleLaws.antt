@@ -10,8 +10,8 @@ use Rattle.srec.specs.Lines.{isEnd}
 use Rattle.parts.specs.Parts.{Status}
 use Rattle.parts.specs.Parts.Status.{going, halted}
 use Rattle.parts.specs.Stretches.{fresh, keptAll}
-use Rattle.intake.specs.declared.Tally.{Tally}
-use Rattle.intake.specs.Tallies.{knownOf}
+use Rattle.tally.specs.declared.Tally.{Tally}
+use Rattle.tally.specs.Tallies.{knownOf}
 use Rattle.session.specs.declared.Session.{Session}
 use Rattle.session.specs.Sessions.{goingOf, statusOf}
 use Rattle.session.proofs.SessionLaws.{shows-going}

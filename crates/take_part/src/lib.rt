@@ -1,7 +1,7 @@
 // One part of a load in parts: its lines, and what is left of it.
-use intake::Turn;
 use part_lines::Rest;
 use session::Session;
+use tally::Turn;
 ghost use mathlib.Core.Path.{_≡_};
 ghost use mathlib.Core.Bool.{false};
 ghost use mathlib.Core.List.{[]};
@@ -26,8 +26,8 @@ fn settle(session: Session, header: [u8; 252], rest: Rest, part: &[u8], marks: &
     match rest {
         Rest::Refused(refusal) => return session::halt(session, refusal, marks),
         Rest::From(from, tally) => {
-            let s = session::next_record(session, session.total + from, tally, header);
-            return session::keep(s, &part[from..]);
+            let s = holding::next_record(session, session.total + from, tally, header);
+            return holding::keep(s, &part[from..]);
         }
     }
 }

@@ -1,3 +1,1 @@
-pub mod AboveLaws
-pub mod TapeTextLaws
 pub mod TapeRowLaws

@@ -116,7 +116,7 @@ fn run_text(
     out: &mut [u8],
 ) {
     mark_bytes::fill(marks, 255);
-    let loaded = load::load_as(format, form, text, base, memory, marks);
+    let loaded = loader::load_as(format, form, text, base, memory, marks);
     printing::print_answer(loaded);
     let refusal = loaded.refusal;
     if refusal.reason != 0 {

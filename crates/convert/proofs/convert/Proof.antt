@@ -9,7 +9,7 @@ use Rattle.window.specs.declared.Written.{Written}
 use Rattle.text.specs.Terms.{Accepted}
 use Rattle.text.specs.Formats.{plan}
 use Rattle.text.specs.Load.{load, loadAnswer, memoryAfter, marksAfter}
-use Rattle.load.proofs.LoaderLaws.{in-bytes}
+use Rattle.loader.proofs.LoaderLaws.{in-bytes}
 use Rattle.formats.specs.declared.Format.{Format as Choice}
 use Rattle.formats.specs.Choices.{formatOf}
 use Rattle.window.specs.Windows.{Window, windowOf}

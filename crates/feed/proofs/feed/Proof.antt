@@ -18,7 +18,7 @@ use Rattle.session.specs.Sessions.{goingOf, statusOf}
 use Rattle.part_lines.proofs.FreeLaws.{all-free}
 use Rattle.take_part.specs.Reads.{readIn}
 use Rattle.take_part.proofs.ReadLaws.{shows, with-form, Reading, total-few, read-kept}
-use Rattle.feed.proofs.FormLaws.{Allows, allows}
+use Rattle.session.proofs.FormLaws.{Allows, allows}
 use Rattle.feed.proofs.CallLaws.{feed-refused, feed-barred, few-so-far, past, not-past, feed-past, feed-read}
 use borrow.Author.Needs.{needs}
 use Rattle.feed.proofs.feed.Statement.{statement}

@@ -6,9 +6,9 @@ use mathlib.Core.List.{List, _++_, map}
 use lib.ListN.{length, take, drop, set, length-map, length-drop, length-append, length-set}
 use lib.Seq.{length-take-le}
 use Rattle.marks.specs.Forms.{flags}
-use Rattle.intake.specs.Tallies.{knownOf}
+use Rattle.tally.specs.Tallies.{knownOf}
 use Rattle.session.specs.Sessions.{visible}
-use Rattle.session.proofs.VisibleLaws.{shown-free, shown-more}
+use Rattle.holding.proofs.VisibleLaws.{shown-free, shown-more}
 use Rattle.part_lines.proofs.TurnLaws.{lf-behind, line-closed, rest-tidy}
 use borrow.Author.Needs.{needs}
 use Rattle.part_lines.proofs.close_line.Statement.{statement}

@@ -12,8 +12,8 @@ use Rattle.srec.specs.Lines.{isEnd}
 use Rattle.parts.specs.Parts.{stage, fed}
 use Rattle.parts.specs.Parts.Status.{going}
 use Rattle.parts.specs.Stretches.{fresh}
-use Rattle.intake.specs.Tallies.{knownOf}
-use Rattle.intake.specs.Takes.{beginOf}
+use Rattle.tally.specs.Tallies.{knownOf}
+use Rattle.part_next.specs.Takes.{beginOf}
 use Rattle.part_lines.proofs.TurnLaws.{took-refused, took-next, turn-tidy, stopped-as}
 use Rattle.part_lines.proofs.LoopLaws.{IsNext, line-next, Taking, roomy, left-open, open-free, number-fits, line-halts, line-reason, line-goes}
 use borrow.Author.Needs.{needs}

@@ -12,8 +12,8 @@ use Rattle.parts.specs.Parts.Status.{going}
 use Rattle.parts.specs.Stretches.{fresh}
 use Rattle.parts.specs.Forms.{inForm}
 use Rattle.parts.specs.Parts.Turn.{next}
-use Rattle.intake.specs.declared.Tally.{Tally}
-use Rattle.intake.specs.Tallies.{knownOf}
+use Rattle.tally.specs.declared.Tally.{Tally}
+use Rattle.tally.specs.Tallies.{knownOf}
 use Rattle.session.specs.Sessions.{goingOf}
 use Rattle.part_lines.proofs.TurnLaws.{took-refused, took-next, turn-tidy}
 use Rattle.session.proofs.SessionLaws.{clear-marks}

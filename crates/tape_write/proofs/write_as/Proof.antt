@@ -21,8 +21,8 @@ use Rattle.tape.specs.Formats.{row19, tape}
 use Rattle.formats.specs.declared.Format.the-variants.{Tape}
 use Rattle.size.specs.declared.Size.{Size}
 use Rattle.size.specs.Sizes.{sizeOf}
-use Rattle.tape_write.proofs.AboveLaws.{few-shown}
-use Rattle.tape_write.proofs.TapeTextLaws.{need-is}
+use Rattle.tape_text.proofs.AboveLaws.{few-shown}
+use Rattle.tape_text.proofs.TapeTextLaws.{need-is}
 use Rattle.tape_write.proofs.TapeRowLaws.{row-16, row-19, row-11, row-17, is-written}
 use borrow.Author.Needs.{needs}
 use Rattle.tape_write.proofs.write_as.Statement.{statement}
