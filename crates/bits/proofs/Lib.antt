@@ -1,6 +1,5 @@
 pub mod DigitLaws
 pub mod PackLaws
-pub mod NextLaws
 pub mod PaintLaws
 pub mod SpanLaws
 pub mod SpareLaws

@@ -1,59 +1,18 @@
-// Marks of one bit a cell: cell i in bit i modulo 8 of byte i / 8. Whole bytes are looked at and set at once.
+// Marks of one bit a cell: cell i in bit i modulo 8 of byte i / 8. Whole bytes are set at once.
 ghost use mathlib.Core.Path.{_≡_};
 ghost use Prim.Native.Nat.{_+_, _-_, _*_, _^_, _≤_, min};
 ghost use lib.ListN.{length};
-ghost use Rattle.window.specs.Walks.{unmarked, run};
 ghost use Rattle.bits.specs.Bits.{bits, byteCount, pack, onesOf};
-ghost use Rattle.bits.specs.Steps.{flipped, Painted};
+ghost use Rattle.bits.specs.Steps.{Painted};
 
 // Cells of a byte.
-const EACH: usize = 8;
+pub const EACH: usize = 8;
 
 // How many bytes the marks of some cells take.
 pub fn byte_count(cells: usize) -> usize
     ensures { λ r. ⌜ r ≡ byteCount cells ⌝ }
 {
     cells / EACH + (cells % EACH + 7) / EACH
-}
-
-// The index of the first cell from `from` on, below `to`, whose bit is set after `flip`; `to` where there is none.
-fn next_bit(marks: &[u8], flip: u8, from: usize, to: usize) -> usize
-    requires { ⌜ (from ≤ to) × (to ≤ 8 * length (now marks)) ⌝ }
-    ensures { λ r. ⌜ r ≡ from + unmarked (bits (flipped flip (now (marks .entry))) from (to - from)) ⌝ }
-{
-    let mut i = from;
-    while i < to {
-        let low = i % EACH;
-        let rest = ((marks[i / EACH] ^ flip) as u32) >> low;
-        if rest != 0 {
-            let ahead = u32::trailing_zeros(rest) as usize;
-            if ahead < to - i {
-                return i + ahead;
-            }
-            return to;
-        }
-        if to - i <= EACH - low {
-            return to;
-        }
-        i += EACH - low;
-    }
-    to
-}
-
-// The index of the first marked cell from `from` on, below `to`; `to` where there is none.
-pub fn next_set(marks: &[u8], from: usize, to: usize) -> usize
-    requires { ⌜ (from ≤ to) × (to ≤ 8 * length (now marks)) ⌝ }
-    ensures { λ r. ⌜ r ≡ from + unmarked (bits (now (marks .entry)) from (to - from)) ⌝ }
-{
-    next_bit(marks, 0, from, to)
-}
-
-// The index of the first cell from `from` on, below `to`, that is not marked; `to` where there is none.
-pub fn next_clear(marks: &[u8], from: usize, to: usize) -> usize
-    requires { ⌜ (from ≤ to) × (to ≤ 8 * length (now marks)) ⌝ }
-    ensures { λ r. ⌜ r ≡ from + run (bits (now (marks .entry)) from (to - from)) ⌝ }
-{
-    next_bit(marks, 255, from, to)
 }
 
 // The bits of a byte from `low` to below `high`.

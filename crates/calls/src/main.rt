@@ -156,8 +156,8 @@ fn form_of(sign: u8) -> Form {
 fn run_window(table: &[u32; 256], heading: &[u8], words: &[u8], text: &[u8])
     requires { ⌜ (now table ≡ digitTable) × (19 ≤ length (now heading)) ⌝ }
 {
-    let base = hex::number_of(table, &heading[1..9]);
-    let size = hex::number_of(table, &heading[10..18]) as usize;
+    let base = hex_read::number_of(table, &heading[1..9]);
+    let size = hex_read::number_of(table, &heading[10..18]) as usize;
     let cells = marks::smaller(size, ROOM);
     let mut memory = [0u8; ROOM];
     // marks that were used before
@@ -210,7 +210,7 @@ fn run_case(table: &[u32; 256], cases: &[u8]) -> usize
 
 // Runs all cases.
 fn run_cases(cases: &[u8]) {
-    let table = hex::digit_table();
+    let table = hex_read::digit_table();
     let mut at: usize = 0;
     while at < cases.len() {
         at += run_case(&table, &cases[at..]);

@@ -13,8 +13,8 @@ fn are_free(form: Form, marks: &[u8], cells: usize, from: usize, to: usize) -> b
     ensures { λ r. ⌜ r ≡ isFree (take (to - from) (drop from (flags form cells (now (marks .entry))))) ⌝ }
 {
     match form {
-        Form::Bytes => mark_bytes::all_free(&marks[from..to]),
-        Form::Packed => bits::next_set(marks, from, to) == to,
+        Form::Bytes => mark_runs::all_free(&marks[from..to]),
+        Form::Packed => bit_runs::next_set(marks, from, to) == to,
     }
 }
 

@@ -12,7 +12,7 @@ fn store_pairs(table: &[u32; 256], part: &mut [u8], chars: &[u8])
 {
     let mut k: usize = 0;
     while k < part.len() {
-        part[k] = hex::byte_of(table, chars[2 * k], chars[2 * k + 1]);
+        part[k] = hex_read::byte_of(table, chars[2 * k], chars[2 * k + 1]);
         k += 1;
     }
 }
@@ -25,7 +25,7 @@ pub fn block_of(chars: &[u8]) -> [u8; 16]
     let mut block = [0u8; 16];
     let mut k: usize = 0;
     while k < 16 {
-        block[k] = 16 * hex::value_of(chars[2 * k]) + hex::value_of(chars[2 * k + 1]);
+        block[k] = 16 * hex_read::value_of(chars[2 * k]) + hex_read::value_of(chars[2 * k + 1]);
         k += 1;
     }
     block

@@ -40,7 +40,7 @@ fn sum_block(chars: &[u8]) -> u32
     ensures { λ r. ⌜ Tells r (now (chars .entry)) × (r ≤ 131072) ⌝ }
 {
     if count_faults(chars) != 0 {
-        return hex::NONE;
+        return hex_read::NONE;
     }
     let block = hex_store::block_of(chars);
     hex_write::sum_bytes(&block)
@@ -59,5 +59,5 @@ pub fn sum_digits(table: &[u32; 256], chars: &[u8]) -> u32
         sum += sum_block(&chars[i..to]);
         i = to;
     }
-    sum + hex::weigh(table, &chars[i..n])
+    sum + hex_read::weigh(table, &chars[i..n])
 }

@@ -27,7 +27,7 @@ use Rattle.srec.specs.Reading.Read.{good, bad}
 use Rattle.srec.specs.Judging.{carried}
 use Rattle.srec.specs.Formats.{srec}
 use Rattle.srec.proofs.SrecFormatLaws.{lawful}
-use Rattle.srec_step.proofs.JudgeLaws.{counting}
+use Rattle.srec_judge.proofs.JudgeLaws.{counting}
 use Rattle.placing.specs.Stores.{storedBy, Placeable}
 use Rattle.parts.specs.Parts.{Known, Turn, stored, stepTurn, recordTurn, lineTurn}
 use Rattle.parts.specs.Parts.Turn.{halt, next}

@@ -30,7 +30,7 @@ pub fn load_as(
     if !allowed {
         return answers::refused_answer(window::refuse(1, 0, 0));
     }
-    let table = hex::digit_table();
+    let table = hex_read::digit_table();
     let low = base as usize;
     let size = memory.len();
     let checked = checking::check(format, &table, text, low, form, marks, size);

@@ -84,7 +84,7 @@ pub fn first_bad(form: Form, marks: &[u8], cells: usize) -> Bad
         }
         Form::Packed => {
             let end = 8 * marks.len();
-            if bits::next_set(marks, cells, end) == end {
+            if bit_runs::next_set(marks, cells, end) == end {
                 return Bad::Nothing;
             }
             return Bad::At(cells);

@@ -31,7 +31,7 @@ pub fn take_next(table: &[u32; 256], state: State, part: &[u8], at: usize, total
     ensures { λ r. ⌜ r ≡ nextIn total state (now (part .entry)) at ⌝ }
 {
     let from = at + lines::count_gaps(Format::Records, &part[at..]);
-    let to = lines::counted_end(Format::Records, table, part, from);
+    let to = line_counts::counted_end(Format::Records, table, part, from);
     if to == part.len() {
         return search_next(table, state, part, at, total);
     }

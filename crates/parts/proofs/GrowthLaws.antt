@@ -20,7 +20,7 @@ use Rattle.text.proofs.FormatLaws.{IsRefusal, StepOk}
 use Rattle.srec.specs.Formats.{srec}
 use Rattle.srec.proofs.LimitLaws.{limits}
 use Rattle.srec.proofs.SrecFormatLaws.{lawful}
-use Rattle.srec_step.proofs.JudgeLaws.{counting}
+use Rattle.srec_judge.proofs.JudgeLaws.{counting}
 use Rattle.parts.specs.Parts.{Known, Turn, stored, stepTurn, recordTurn, lineTurn}
 use Rattle.parts.specs.Parts.Turn.{halt, next}
 

@@ -55,7 +55,7 @@ fn bytes_in(table: &[u32; 256], digits: &[u8], bytes: &mut [u8]) -> usize
     let n = marks::smaller(digits.len() / 2, bytes.len());
     let mut i: usize = 0;
     while i < n {
-        bytes[i] = hex::byte_of(table, digits[2 * i], digits[2 * i + 1]);
+        bytes[i] = hex_read::byte_of(table, digits[2 * i], digits[2 * i + 1]);
         i += 1;
     }
     n
@@ -68,7 +68,7 @@ pub fn address_in(table: &[u32; 256], digits: &[u8]) -> u32
     if digits.len() < 8 {
         return 0;
     }
-    hex::number_of(table, &digits[..8])
+    hex_read::number_of(table, &digits[..8])
 }
 
 // The image with what a letter and the digits behind it set.

@@ -88,7 +88,7 @@ fn look_all(table: &[u32; 256], form: Form, base: u32, under: Image, over: Image
     let mut at: usize = 0;
     while 8 <= digits.len() - at {
         let next = at + 8;
-        let address = hex::number_of(table, &digits[at..next]);
+        let address = hex_read::number_of(table, &digits[at..next]);
         look(form, base, under, over, address);
         at = next;
     }
@@ -281,7 +281,7 @@ fn case_of(table: &[u32; 256], heading: &[u8]) -> Case
 {
     Case {
         form: form_of(heading[9]),
-        at: hex::number_of(table, &heading[1..9]),
+        at: hex_read::number_of(table, &heading[1..9]),
         base: image::empty(),
         patch: image::empty(),
     }
@@ -311,7 +311,7 @@ fn run_case(table: &[u32; 256], cases: &[u8]) -> usize
 
 // Runs all cases.
 fn run_cases(cases: &[u8]) {
-    let table = hex::digit_table();
+    let table = hex_read::digit_table();
     let mut at: usize = 0;
     while at < cases.len() {
         at += run_case(&table, &cases[at..]);

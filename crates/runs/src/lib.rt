@@ -14,8 +14,8 @@ pub fn next_marked(form: Form, marks: &[u8], cells: usize, at: usize) -> usize
     ensures { λ r. ⌜ r ≡ at + unmarked (drop at (flags form cells (now (marks .entry)))) ⌝ }
 {
     match form {
-        Form::Bytes => mark_bytes::next_byte(marks, at),
-        Form::Packed => bits::next_set(marks, at, cells),
+        Form::Bytes => mark_runs::next_byte(marks, at),
+        Form::Packed => bit_runs::next_set(marks, at, cells),
     }
 }
 
@@ -26,8 +26,8 @@ pub fn run_end(form: Form, marks: &[u8], cells: usize, at: usize, most: usize) -
 {
     let to = at + marks::smaller(most, cells - at);
     match form {
-        Form::Bytes => mark_bytes::end_byte(marks, at, to),
-        Form::Packed => bits::next_clear(marks, at, to),
+        Form::Bytes => mark_runs::end_byte(marks, at, to),
+        Form::Packed => bit_runs::next_clear(marks, at, to),
     }
 }
 

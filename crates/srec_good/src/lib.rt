@@ -16,19 +16,19 @@ pub fn read_good(table: &[u32; 256], chars: &[u8]) -> Record
         return Record::Bad(0, 0, 0);
     }
     let kind = chars[1];
-    let count = hex::byte_of(table, chars[2], chars[3]) as usize;
+    let count = hex_read::byte_of(table, chars[2], chars[3]) as usize;
     if !srec_fields::fits(kind, width, chars.len(), count) {
         return Record::Bad(0, 0, 0);
     }
     let sum = hex_sum::sum_digits(table, &chars[2..]);
-    if sum >= hex::NONE {
+    if sum >= hex_read::NONE {
         return Record::Bad(0, 0, 0);
     }
     if sum % 256 != 255 {
         return Record::Bad(0, 0, 0);
     }
     let data = 4 + 2 * width;
-    let address = hex::number_of(table, &chars[4..data]);
+    let address = hex_read::number_of(table, &chars[4..data]);
     let size = count - (width + 1);
     Record::Good(kind, address, size)
 }

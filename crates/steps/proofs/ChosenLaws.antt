@@ -10,7 +10,7 @@ use Rattle.text.proofs.StepLaws.{Counting}
 use Rattle.formats.specs.declared.Format.{Format}
 use Rattle.formats.specs.declared.Format.the-variants.{Records, Tape}
 use Rattle.formats.specs.Choices.{formatOf}
-use Rattle.srec_step.proofs.JudgeLaws.{counting as recordsCount}
+use Rattle.srec_judge.proofs.JudgeLaws.{counting as recordsCount}
 use Rattle.tape_step.proofs.LineStepLaws.{counting as tapesCount}
 
 -- the numbers of its walk can be kept

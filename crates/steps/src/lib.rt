@@ -58,7 +58,7 @@ pub fn take_next(format: Format, table: &[u32; 256], state: State, text: &[u8], 
     ensures { λ r. ⌜ r ≡ taken (formatOf format) state (lines (formatOf format .gap) at (drop at (now (text .entry)))) ⌝ }
 {
     let from = at + lines::count_gaps(format, &text[at..]);
-    let to = lines::counted_end(format, table, text, from);
+    let to = line_counts::counted_end(format, table, text, from);
     let answer = good_step(format, table, state, &text[from..to], from);
     let Sure::Yes(step) = answer else {
         return search_next(format, table, state, text, at);

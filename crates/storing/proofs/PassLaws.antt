@@ -30,7 +30,7 @@ use Rattle.formats.specs.declared.Format.{Format as Choice}
 use Rattle.formats.specs.declared.Format.the-variants.{Records, Tape}
 use Rattle.formats.specs.Choices.{formatOf}
 use Rattle.formats.proofs.ChoiceLaws.{limitsOf, lawfulOf}
-use Rattle.lines.specs.Counts.{sizeOf, LongAsCounted}
+use Rattle.line_counts.specs.Counts.{sizeOf, LongAsCounted}
 use Rattle.placing.specs.Stores.{storedBy, Placeable, Accepts}
 use Rattle.placing.proofs.StoreLaws.{Readable, readable}
 use Rattle.placing.proofs.LineLaws.{line-readable}

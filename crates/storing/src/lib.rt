@@ -29,7 +29,7 @@ pub fn store_all(format: Format, table: &[u32; 256], text: &[u8], base: usize, m
 {
     let mut at: usize = 0;
     loop {
-        let found = lines::next_counted(format, table, text, at);
+        let found = line_counts::next_counted(format, table, text, at);
         let Found::At { from, to } = found else {
             return;
         };

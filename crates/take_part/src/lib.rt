@@ -47,7 +47,7 @@ pub fn take_fresh(
     ensures marks { λ _. ⌜ now (marks .exit) ≡ readIn session base (now (memory .entry)) (now (marks .entry)) (now (part .entry)) .marks ⌝ }
     ensures form { λ r. ⌜ r .form ≡ session .form ⌝ }
 {
-    let table = hex::digit_table();
+    let table = hex_read::digit_table();
     let form = session.form;
     let tally = session.tally;
     let mut header = session.header;
@@ -82,13 +82,13 @@ pub fn take_cut(
     ensures marks { λ _. ⌜ now (marks .exit) ≡ readIn session base (now (memory .entry)) (now (marks .entry)) (now (part .entry)) .marks ⌝ }
     ensures form { λ r. ⌜ r .form ≡ session .form ⌝ }
 {
-    let table = hex::digit_table();
+    let table = hex_read::digit_table();
     let form = session.form;
     let total = session.total;
     let tally = session.tally;
     let mut header = session.header;
     let mut line = session.line;
-    let turn = part_lines::close_line(
+    let turn = cut_line::close_line(
         &table,
         &mut line,
         session.held,

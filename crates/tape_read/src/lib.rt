@@ -36,15 +36,15 @@ pub fn read_line(table: &[u32; 256], chars: &[u8], place: usize) -> Line
     if chars[0] != b';' {
         return Line::Bad(4, place);
     }
-    let wrong = hex::first_bad(&chars[1..]);
+    let wrong = hex_read::first_bad(&chars[1..]);
     if wrong < n - 1 {
         return Line::Bad(5, place + (1 + wrong));
     }
-    let len = hex::byte_of(table, chars[1], chars[2]) as usize;
+    let len = hex_read::byte_of(table, chars[1], chars[2]) as usize;
     if n != NO_DATA + 2 * len {
         return Line::Bad(6, place);
     }
-    let address = hex::number_of(table, &chars[3..7]);
+    let address = hex_read::number_of(table, &chars[3..7]);
     Line::Good(address, len)
 }
 
@@ -64,17 +64,17 @@ pub fn read_checked(edition: Edition, table: &[u32; 256], chars: &[u8]) -> Line
     if chars[0] != b';' {
         return Line::Bad(0, 0);
     }
-    let len = hex::byte_of(table, chars[1], chars[2]) as usize;
+    let len = hex_read::byte_of(table, chars[1], chars[2]) as usize;
     if n != NO_DATA + 2 * len {
         return Line::Bad(0, 0);
     }
     let sum = hex_sum::sum_digits(table, &chars[1..]);
-    if sum >= hex::NONE {
+    if sum >= hex_read::NONE {
         return Line::Bad(0, 0);
     }
-    let address = hex::number_of(table, &chars[3..7]);
-    let high = hex::byte_of(table, chars[n - 4], chars[n - 3]) as u32;
-    let low = hex::byte_of(table, chars[n - 2], chars[n - 1]) as u32;
+    let address = hex_read::number_of(table, &chars[3..7]);
+    let high = hex_read::byte_of(table, chars[n - 4], chars[n - 3]) as u32;
+    let low = hex_read::byte_of(table, chars[n - 2], chars[n - 1]) as u32;
     if 256 * high + low != tape::check_of(edition, len, address, sum - (high + low)) {
         return Line::Bad(0, 0);
     }

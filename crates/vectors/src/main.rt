@@ -156,8 +156,8 @@ fn run_window(table: &[u32; 256], heading: &[u8], text: &[u8])
 {
     let format = format_of(heading[18]);
     let form = form_of(heading);
-    let base = hex::number_of(table, &heading[1..9]);
-    let cells = hex::number_of(table, &heading[10..18]) as usize;
+    let base = hex_read::number_of(table, &heading[1..9]);
+    let cells = hex_read::number_of(table, &heading[10..18]) as usize;
     if cells > 65536 {
         io::write_all(STDOUT_FILENO, b"too many cells\n");
         return;
@@ -200,7 +200,7 @@ fn run_case(table: &[u32; 256], cases: &[u8]) -> usize
 
 // Runs all cases.
 fn run_cases(cases: &[u8]) {
-    let table = hex::digit_table();
+    let table = hex_read::digit_table();
     let mut at: usize = 0;
     while at < cases.len() {
         at += run_case(&table, &cases[at..]);

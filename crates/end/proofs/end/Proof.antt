@@ -9,7 +9,7 @@ use Rattle.marks.proofs.RowLaws.{allowed-in}
 use Rattle.parts.specs.Parts.{answered}
 use Rattle.parts.specs.Forms.{endAs, answeredIn}
 use Rattle.session.specs.Sessions.{statusOf}
-use Rattle.end.proofs.EndLaws.{ended-fits, recounts, no-count}
+use Rattle.finish.proofs.EndLaws.{ended-fits, recounts, no-count}
 use borrow.Author.Needs.{needs}
 use Rattle.end.proofs.end.Statement.{statement}
 use Rattle.end.proofs.end.Tie as tie

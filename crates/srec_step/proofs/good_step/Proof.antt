@@ -4,7 +4,7 @@ use Rattle.srec.specs.Reading.{read}
 use Rattle.srec_fields.specs.declared.Record.{Record}
 use Rattle.srec_fields.specs.Records.{GoodIs}
 use Rattle.srec_fields.proofs.FieldLaws.{Got, got}
-use Rattle.srec_step.proofs.JudgeLaws.{judge-fits, step-good}
+use Rattle.srec_judge.proofs.JudgeLaws.{judge-fits, step-good}
 use Rattle.srec_step.proofs.RecordGapLaws.{good-line}
 use borrow.Author.Needs.{needs}
 use Rattle.srec_step.proofs.good_step.Statement.{statement}

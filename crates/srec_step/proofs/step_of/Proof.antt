@@ -2,7 +2,7 @@
 use mathlib.Core.Path.{sym, ap, _∙_}
 use Rattle.srec_step.specs.Refusals.{refusing}
 use Rattle.srec_fields.proofs.FieldLaws.{Got, got}
-use Rattle.srec_step.proofs.JudgeLaws.{judge-fits, step-good, step-bad}
+use Rattle.srec_judge.proofs.JudgeLaws.{judge-fits, step-good, step-bad}
 use borrow.Author.Needs.{needs}
 use Rattle.srec_step.proofs.step_of.Statement.{statement}
 use Rattle.srec_step.proofs.step_of.Tie as tie
