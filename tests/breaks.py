@@ -12,12 +12,14 @@ over a base image; tests/compare must notice that by way of the program patches,
 test of the cases of crates/patches. An edit of kind 'packed' breaks it in packed marks; tests/compare must notice that by way
 of one of the three programs, and so must the oracle's own tests, and its tests of the cases of one of the three. An edit of
 kind 'errors' breaks it in how it takes single errors; there it stands in for the program vectors, and tests/compare must
-notice. An edit of kind 'calls' breaks the crates themselves; the program calls is compiled with it, without a proof, and the cases of
-crates/calls must notice. An edit of kind 'patches' does so with the program patches; the cases of crates/patches must notice,
-and so must the first cases that tests/compare draws, by the oracle's answers: `rt try` leaves no program that tests/compare
-itself could run. An edit names a file and replaces text that stands there exactly once, or several such texts in turn. With no
-edit nothing may be noticed. SREC_LIB_DIR, VECTORS, CALLS and PATCHES name another folder of the archive and other programs.
-One line an edit; the last line is 'N passed, M failed'."""
+notice. An edit of kind 'chips' breaks it in images over chips; tests/compare must notice that by way of the program deals,
+and so must the oracle's own tests, and its test of the cases of crates/deals. An edit of kind 'calls' breaks the crates
+themselves; the program calls is compiled with it, without a proof, and the cases of crates/calls must notice. An edit of kind
+'patches' does so with the program patches; the cases of crates/patches must notice, and so must the first cases that
+tests/compare draws, by the oracle's answers: `rt try` leaves no program that tests/compare itself could run. An edit names a
+file and replaces text that stands there exactly once, or several such texts in turn. With no edit nothing may be noticed.
+SREC_LIB_DIR, VECTORS, CALLS, PATCHES and DEALS name another folder of the archive and other programs. One line an edit; the
+last line is 'N passed, M failed'."""
 
 import functools
 import json
@@ -34,7 +36,8 @@ BREAKS = TESTS / "breaks"
 TARGET = TESTS.parent / "target"
 READING = TESTS / "second" / "src"
 # what tests/compare takes if nothing else is named
-BUILT = {name: TARGET / "bin" / name.lower() for name in ("VECTORS", "CALLS", "PATCHES")} | {"SREC_LIB_DIR": TARGET / "staticlib"}
+PROGRAMS = ("VECTORS", "CALLS", "PATCHES", "DEALS")
+BUILT = {name: TARGET / "bin" / name.lower() for name in PROGRAMS} | {"SREC_LIB_DIR": TARGET / "staticlib"}
 SOURCES = [READING / "reading.rs", READING / "tape.rs", BREAKS / "library" / "face.rs", TESTS.parent / "include" / "srec.h"]
 # fewer than in the usual runs: what is wrong is noticed soon
 SEED, CASES = "1", "20000"
@@ -168,6 +171,12 @@ def errors(edit, folder):
     return second(edit, folder, ("compare", "errors"), stands_in="vectors")
 
 
+def chips(edit, folder):
+    """Images over chips, by the program deals, by the oracle's tests and by the cases of crates/deals."""
+    copy_cases(folder, "deals")
+    return second(edit, folder, ("compare", "chips"), ("second", "chips"), ("second", "deals"))
+
+
 def edited(edit, folder):
     """Copies the crates, edited."""
     shutil.copy(TESTS.parent / "crates.txt", folder)
@@ -235,7 +244,7 @@ def try_edit(kind, edit):
 def main():
     names = sys.argv[1:]
     results = []
-    for kind in (library, answers, parts, overlay, packed, errors, calls, patches):
+    for kind in (library, answers, parts, overlay, packed, errors, chips, calls, patches):
         edits = [None, *sorted((BREAKS / kind.__name__).glob("*.edit"))]
         whole = not names or kind.__name__ in names
         results += [try_edit(kind, edit) for edit in edits if whole or edit and edit.stem in names]

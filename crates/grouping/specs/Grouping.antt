@@ -7,7 +7,7 @@ use mathlib.Core.Logic.{_⊎_}
 use Rattle.window.specs.declared.Entry.the-variants.{Absent}
 use Rattle.window.specs.Windows.{Marked}
 use Rattle.window.specs.Cells.{shown}
-use Rattle.overlay.specs.Refusals.{passes}
+use Rattle.window.specs.Plans.{passes}
 use Rattle.overlay.specs.Merges.{Lent, windowAt, refusalOf, leaves}
 
 -- Req 10's "where no merge is refused": the merge of P into B is not

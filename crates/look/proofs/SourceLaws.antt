@@ -13,7 +13,8 @@ use Rattle.marks.specs.declared.Form.{Form}
 use Rattle.marks.specs.Forms.{plain}
 use Rattle.overlay.specs.declared.Source.{Source}
 use Rattle.overlay.specs.declared.Source.the-variants.{Patch, Base, Neither, Refused}
-use Rattle.overlay.specs.Refusals.{row1BothIn, badOf, firstRow, lookRefusalIn, passes}
+use Rattle.window.specs.Plans.{passes}
+use Rattle.overlay.specs.Refusals.{row1BothIn, badOf, firstRow, lookRefusalIn}
 use Rattle.overlay.specs.Looks.{sourceAt}
 use Rattle.overlay.specs.Forms.{lookSourceIn}
 use Rattle.overlay.specs.Facts.{names}

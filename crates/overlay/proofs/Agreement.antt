@@ -11,7 +11,8 @@ use Rattle.marks.specs.declared.Form.the-variants.{Packed}
 use Rattle.marks.specs.Forms.{flags, plain}
 use Rattle.marks.proofs.FormLaws.{flags-are, image-clean}
 use Rattle.overlay.specs.Layers.{patched}
-use Rattle.overlay.specs.Refusals.{row1BothIn, badOf, mergeRefusal, mergeRefusalIn, passes}
+use Rattle.window.specs.Plans.{passes}
+use Rattle.overlay.specs.Refusals.{row1BothIn, badOf, mergeRefusal, mergeRefusalIn}
 use Rattle.overlay.specs.Looks.{lookPart, lookPlace}
 use Rattle.overlay.specs.Merges.{Lent, windowAt, contentOf, refusalOf, mergeAnswer, memoryAfter, marksAfter}
 use Rattle.overlay.specs.Forms.{lookPartIn, lookPlaceIn, plainLent, mergedIn, refusalIn, mergeAnswerIn, memoryAfterIn, marksAfterIn}

@@ -17,7 +17,8 @@ use Rattle.marks.specs.declared.Bad.the-variants.{At, Nothing}
 use Rattle.marks.specs.Forms.{flags, plain, row1In}
 use Rattle.marks.proofs.FormLaws.{no-bad, flags-good}
 use Rattle.marks.proofs.RowLaws.{plain-allowed}
-use Rattle.overlay.specs.Refusals.{row1Both, row1BothIn, badIn, badOf, firstRow, lookRefusal, mergeRefusal, lookRefusalIn, mergeRefusalIn, passes}
+use Rattle.window.specs.Plans.{passes}
+use Rattle.overlay.specs.Refusals.{row1Both, row1BothIn, badIn, badOf, firstRow, lookRefusal, mergeRefusal, lookRefusalIn, mergeRefusalIn}
 use Rattle.overlay.specs.Looks.{lookSource, lookPart, lookPlace}
 use Rattle.overlay.specs.Merges.{Lent, lent, windowAt, mergeAnswer, memoryAfter, marksAfter}
 use Rattle.overlay.specs.Forms.{lookSourceIn, lookPartIn, lookPlaceIn, mergeAnswerIn, memoryAfterIn, marksAfterIn}

@@ -12,7 +12,8 @@ use Rattle.window.specs.Windows.{Window}
 use Rattle.window.specs.Images.{image}
 use Rattle.overlay.specs.declared.Source.{Source}
 use Rattle.overlay.specs.declared.Source.the-variants.{Neither, Refused}
-use Rattle.overlay.specs.Refusals.{lookRefusal, passes}
+use Rattle.window.specs.Plans.{passes}
+use Rattle.overlay.specs.Refusals.{lookRefusal}
 use Rattle.overlay.specs.Looks.{sourceOf, extent, from, sourceAt, lookSource, memoryOf, partOf, lookPart}
 use Rattle.overlay.specs.Facts.{names}
 use Rattle.overlay.proofs.AlignedLaws.{Aligned, aligned, aligned-drop, image-drop}

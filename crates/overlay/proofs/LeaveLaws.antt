@@ -10,7 +10,7 @@ use lib.Seq.{take-append-seam}
 use Rattle.window.specs.Images.{Image, image, marksOf, overlaid}
 use Rattle.layers.specs.Layers.{joined}
 use Rattle.overlay.specs.Layers.{merged, Content, patched}
-use Rattle.overlay.specs.Refusals.{passes}
+use Rattle.window.specs.Plans.{passes}
 use Rattle.overlay.specs.Merges.{Lent, windowAt, contentOf, refusalOf, mergeAnswer, memoryAfter, marksAfter, leaves}
 use Rattle.overlay.specs.Facts.{Merge-shows, Merge-leaves}
 use Rattle.overlay.proofs.AlignedLaws.{length-image, merge-shown, Aligned, ends, next, aligned, merge-marks}

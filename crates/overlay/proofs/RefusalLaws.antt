@@ -10,7 +10,7 @@ use borrow.Author.Tests.{eqb-true, ltb-false, not-false}
 use Rattle.lists.proofs.TestLaws.{or-neither}
 use Rattle.window.specs.Windows.{Window, firstBadMark, row16}
 use Rattle.window.specs.Headers.{row15}
-use Rattle.window.specs.Plans.{refusal}
+use Rattle.window.specs.Plans.{refusal, passes}
 use Rattle.marks.specs.declared.Form.{Form}
 use Rattle.marks.specs.declared.Form.the-variants.{Bytes}
 use Rattle.marks.specs.declared.Bad.{Bad}
@@ -18,7 +18,7 @@ use Rattle.marks.specs.declared.Bad.the-variants.{At, Nothing}
 use Rattle.marks.specs.Forms.{plain, markBytes, row1In}
 use Rattle.marks.proofs.FormLaws.{flags-length, no-bad}
 use Rattle.marks.proofs.RowLaws.{row-1-bytes, allowed-in}
-use Rattle.overlay.specs.Refusals.{row1Both, row1BothIn, badIn, badOf, firstRow, lookRefusal, lookRefusalIn, mergeRefusal, mergeRefusalIn, passes}
+use Rattle.overlay.specs.Refusals.{row1Both, row1BothIn, badIn, badOf, firstRow, lookRefusal, lookRefusalIn, mergeRefusal, mergeRefusalIn}
 use Rattle.overlay.proofs.AlignedLaws.{Clean}
 
 -- ---- row 1

@@ -10,7 +10,8 @@ use borrow.Author.Tests.{lt-ltb, le-ltb}
 use Rattle.window.specs.Windows.{Window}
 use Rattle.window.specs.Images.{image}
 use Rattle.overlay.specs.declared.Source.the-variants.{Neither, Refused}
-use Rattle.overlay.specs.Refusals.{lookRefusal, passes}
+use Rattle.window.specs.Plans.{passes}
+use Rattle.overlay.specs.Refusals.{lookRefusal}
 use Rattle.overlay.specs.Looks.{sourceOf, seenIn, from, sourceAt, lookSource}
 use Rattle.overlay.specs.Facts.{markSource, Every-source}
 use Rattle.overlay.proofs.AlignedLaws.{length-image, Aligned, ends, next, aligned}

@@ -16,7 +16,8 @@ use Rattle.window.specs.Images.{Image}
 use Rattle.window.specs.Cells.{Cell, Run, cells, flat}
 use Rattle.window.proofs.CellLaws.{cells-append}
 use Rattle.overlay.specs.Layers.{nonEmpty, merged}
-use Rattle.overlay.specs.Refusals.{lookRefusal, passes}
+use Rattle.window.specs.Plans.{passes}
+use Rattle.overlay.specs.Refusals.{lookRefusal}
 use Rattle.overlay.specs.Looks.{sourceOf, seenIn, from, sourceAt, lookSource, lookPart}
 use Rattle.overlay.specs.Facts.{names, comesAt, merging, walk, Looks, Parted, Whole-walk}
 use Rattle.overlay.proofs.AlignedLaws.{length-image}

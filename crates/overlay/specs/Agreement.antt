@@ -7,7 +7,8 @@ use lib.ListN.{length}
 use Rattle.window.specs.Windows.{Window}
 use Rattle.marks.specs.declared.Form.the-variants.{Packed}
 use Rattle.marks.specs.Forms.{flags, plain, row16In}
-use Rattle.overlay.specs.Refusals.{lookRefusalIn, passes}
+use Rattle.window.specs.Plans.{passes}
+use Rattle.overlay.specs.Refusals.{lookRefusalIn}
 use Rattle.overlay.specs.Looks.{lookSource, lookPart, lookPlace}
 use Rattle.overlay.specs.Merges.{Lent, mergeAnswer, memoryAfter, marksAfter}
 use Rattle.overlay.specs.Forms.{lookSourceIn, lookPartIn, lookPlaceIn, plainLent, refusalIn, mergeAnswerIn, memoryAfterIn, marksAfterIn}

@@ -12,7 +12,8 @@ use Rattle.window.specs.Cells.{Run, cells, flat}
 use Rattle.overlay.specs.declared.Source.{Source}
 use Rattle.overlay.specs.declared.Source.the-variants.{Patch, Base, Neither, Refused}
 use Rattle.overlay.specs.Layers.{laid, holds, nonEmpty, merged, patched}
-use Rattle.overlay.specs.Refusals.{lookRefusal, passes}
+use Rattle.window.specs.Plans.{passes}
+use Rattle.overlay.specs.Refusals.{lookRefusal}
 use Rattle.overlay.specs.Looks.{comes, seenIn, from, memoryOf, lookSource, lookPart}
 use Rattle.overlay.specs.Merges.{Lent, contentOf, refusalOf, leaves}
 

@@ -14,7 +14,8 @@ use Rattle.overlay.specs.declared.Source.{Source}
 use Rattle.overlay.specs.declared.Source.the-variants.{Refused}
 use Rattle.overlay.specs.declared.Merged.{Merged}
 use Rattle.overlay.specs.Layers.{Content, patched}
-use Rattle.overlay.specs.Refusals.{lookRefusalIn, mergeRefusalIn, passes}
+use Rattle.window.specs.Plans.{passes}
+use Rattle.overlay.specs.Refusals.{lookRefusalIn, mergeRefusalIn}
 use Rattle.overlay.specs.Looks.{sourceAt, partOf, placeOf}
 use Rattle.overlay.specs.Merges.{Lent, lent, windowAt, contentOf, refusedMerge}
 

@@ -10,7 +10,8 @@ use Rattle.window.specs.Images.{Image, image}
 use Rattle.overlay.specs.declared.Source.{Source}
 use Rattle.overlay.specs.declared.Source.the-variants.{Patch, Base, Neither, Refused}
 use Rattle.overlay.specs.Layers.{holds}
-use Rattle.overlay.specs.Refusals.{lookRefusal, passes}
+use Rattle.window.specs.Plans.{passes}
+use Rattle.overlay.specs.Refusals.{lookRefusal}
 
 -- a cell, b of the base and p of the patch, comes from the image that the source names: Req 07's "the patch where it is marked, else the base"
 abbrev pub comes : Source → Option ℕ → Option ℕ → Bool

@@ -11,7 +11,8 @@ use Rattle.window.specs.Images.{image, marksOf, overlaid}
 use Rattle.window.specs.Headers.{headerOf}
 use Rattle.overlay.specs.declared.Merged.{Merged}
 use Rattle.overlay.specs.Layers.{Content, patched}
-use Rattle.overlay.specs.Refusals.{mergeRefusal, passes}
+use Rattle.window.specs.Plans.{passes}
+use Rattle.overlay.specs.Refusals.{mergeRefusal}
 
 -- an image in lent buffers, with its header's bytes and its entry
 pub record Lent : Type 0 where

@@ -54,7 +54,3 @@ lookRefusalIn form B P = firstRow (row1BothIn form B P) false (badOf form B) (ba
 
 unfoldable pub mergeRefusalIn : Form → Window → List ℕ → Window → List ℕ → Refusal
 mergeRefusalIn form B header P patchHeader = firstRow (row1BothIn form B P) (row15 header || row15 patchHeader) (badOf form B) (badOf form P)
-
--- no row applies
-abbrev pub passes : Refusal → Bool
-passes f = eqb (f .reason) 0

@@ -7,10 +7,12 @@
 //! `vectors`, `parts` loads in parts, by way of the program `calls`, and `overlay`
 //! patches over a base image, by way of the program `patches`. `grouping` asks of
 //! that program what must hold of merges in any grouping and order, and `errors` of
-//! `vectors` what must come of a changed digit. `examples` holds the files of the
-//! examples folder to the second reading.
+//! `vectors` what must come of a changed digit. `chips` compares images dealt over
+//! chips, by way of the program `deals`. `examples` holds the files of the examples
+//! folder to the second reading.
 
 pub mod answers;
+pub mod chips;
 pub mod errors;
 pub mod examples;
 pub mod format;

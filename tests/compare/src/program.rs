@@ -53,6 +53,16 @@ impl Case for second::patches::Case {
     }
 }
 
+impl Case for second::deals::Case {
+    fn script(&self) -> Vec<u8> {
+        self.script()
+    }
+
+    fn answer(&self) -> Vec<u8> {
+        self.answer()
+    }
+}
+
 /// A program of target/bin, unless the variable names another.
 #[derive(Clone, Copy)]
 pub struct Program {
@@ -73,6 +83,11 @@ pub const CALLS: Program = Program {
 pub const PATCHES: Program = Program {
     name: "patches",
     variable: "PATCHES",
+};
+
+pub const DEALS: Program = Program {
+    name: "deals",
+    variable: "DEALS",
 };
 
 /// The cases of one run of a program.

@@ -4,6 +4,7 @@
 //! what the case aims at, so that any few hundred cases in a row reach every
 //! refusal; the seed decides the rest.
 
+pub mod chips;
 pub mod cuts;
 mod draft;
 mod drawing;

@@ -4,13 +4,16 @@
 //! those of MOS Technology tapes. `parts` is a load of S-records in parts, a
 //! program of its own. `overlay` lays a patch over a base image. `packed` has all
 //! of these with one bit a cell for a mark, and `form` those of either form of
-//! marks. `cases` draws texts, windows and images that reach every row of the
-//! refusal table, from the numbers of `random`. `script` has cases and answers in
-//! the form of the program `vectors`, `calls` in that of the program `calls`, and
-//! `patches` in that of the program `patches`.
+//! marks. `chips` deals an image over memory chips and collects them. `cases` draws
+//! texts, windows and images that reach every row of the refusal table, from the
+//! numbers of `random`. `script` has cases and answers in the form of the program
+//! `vectors`, `calls` in that of the program `calls`, `patches` in that of the
+//! program `patches`, and `deals` in that of the program `deals`.
 
 pub mod calls;
 pub mod cases;
+pub mod chips;
+pub mod deals;
 pub mod form;
 pub mod overlay;
 pub mod packed;

@@ -77,7 +77,7 @@ impl Display for Command {
 }
 
 /// Groups of so many digits, all of them capitals, as numbers.
-fn numbers(digits: &str, size: usize) -> Option<Vec<u32>> {
+pub(crate) fn numbers(digits: &str, size: usize) -> Option<Vec<u32>> {
     let capital = |c: char| c.is_ascii_digit() || ('A'..='F').contains(&c);
     if !digits.chars().all(capital) || !digits.len().is_multiple_of(size) {
         return None;
@@ -88,7 +88,7 @@ fn numbers(digits: &str, size: usize) -> Option<Vec<u32>> {
 }
 
 /// Pairs of digits as bytes, at most so many.
-fn bytes(digits: &str, most: usize) -> Option<Vec<u8>> {
+pub(crate) fn bytes(digits: &str, most: usize) -> Option<Vec<u8>> {
     let bytes = numbers(digits, 2)?.into_iter().map(|byte| byte as u8);
     Some(bytes.collect()).filter(|bytes: &Vec<u8>| bytes.len() <= most)
 }
@@ -300,7 +300,7 @@ fn look_word(word: &Word) -> String {
 
 /// Entry and header as `calls` prints them: with small digits, the header
 /// without the zeros at its end.
-fn title_words(title: &Title) -> String {
+pub(crate) fn title_words(title: &Title) -> String {
     let entry = title.entry.map(|entry| format!("{entry:08x}"));
     let end = title.header.iter().rposition(|&byte| byte != 0);
     let header = hex(&title.header[..end.map_or(0, |last| last + 1)]).to_lowercase();

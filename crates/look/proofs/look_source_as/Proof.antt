@@ -3,7 +3,8 @@ use mathlib.Core.Path.{_≡_, _∙_}
 use mathlib.Core.Bool.{true}
 use Rattle.window.specs.Windows.{Window, windowOf}
 use Rattle.marks.specs.declared.Form.{Form}
-use Rattle.overlay.specs.Refusals.{lookRefusalIn, passes}
+use Rattle.window.specs.Plans.{passes}
+use Rattle.overlay.specs.Refusals.{lookRefusalIn}
 use Rattle.overlay.proofs.RefusalLaws.{look-fit-in}
 use Rattle.look.proofs.SourceLaws.{passed, is-refused, is-source}
 use borrow.Author.Needs.{needs}

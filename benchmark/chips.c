@@ -1,0 +1,105 @@
+/* chips: dealing an image over chips and collecting it, beside a copy of memory and marks. See README.md here. */
+#include <stdint.h>
+#include <stdio.h>
+#include <stdlib.h>
+#include <string.h>
+#include <time.h>
+
+enum { CELLS = 1 << 24, CHIPS = 4, ROUNDS = 15 };
+
+/* crates/chips_c */
+uint32_t srec_deal_cells(size_t k, uint32_t base, const uint8_t *memory, size_t memory_len, const uint8_t *marks, size_t marks_len,
+                         uint8_t *memory0, size_t memory0_len, uint8_t *marks0, size_t marks0_len, uint8_t *memory1, size_t memory1_len,
+                         uint8_t *marks1, size_t marks1_len, uint8_t *memory2, size_t memory2_len, uint8_t *marks2, size_t marks2_len,
+                         uint8_t *memory3, size_t memory3_len, uint8_t *marks3, size_t marks3_len);
+uint32_t srec_collect_cells(size_t k, uint32_t base, uint8_t *memory, size_t memory_len, uint8_t *marks, size_t marks_len,
+                            const uint8_t *memory0, size_t memory0_len, const uint8_t *marks0, size_t marks0_len, const uint8_t *memory1,
+                            size_t memory1_len, const uint8_t *marks1, size_t marks1_len, const uint8_t *memory2, size_t memory2_len,
+                            const uint8_t *marks2, size_t marks2_len, const uint8_t *memory3, size_t memory3_len, const uint8_t *marks3,
+                            size_t marks3_len);
+
+static uint8_t memory[CELLS], marks[CELLS], back[CELLS], back_marks[CELLS];
+static uint8_t chip[CHIPS][CELLS / 2], chip_marks[CHIPS][CELLS / 2];
+
+static double now(void)
+{
+    struct timespec t;
+    clock_gettime(CLOCK_MONOTONIC, &t);
+    return t.tv_sec + 1e-9 * t.tv_nsec;
+}
+
+static uint32_t deal(size_t k)
+{
+    size_t n = CELLS / k, rest = k == 4 ? n : 0;
+    return srec_deal_cells(k, 0, memory, CELLS, marks, CELLS, chip[0], n, chip_marks[0], n, chip[1], n, chip_marks[1], n, chip[2], rest,
+                           chip_marks[2], rest, chip[3], rest, chip_marks[3], rest);
+}
+
+static uint32_t collect(size_t k)
+{
+    size_t n = CELLS / k, rest = k == 4 ? n : 0;
+    return srec_collect_cells(k, 0, back, CELLS, back_marks, CELLS, chip[0], n, chip_marks[0], n, chip[1], n, chip_marks[1], n, chip[2],
+                              rest, chip_marks[2], rest, chip[3], rest, chip_marks[3], rest);
+}
+
+static uint32_t copy(size_t k)
+{
+    memcpy(back, memory, CELLS);
+    memcpy(back_marks, marks, CELLS);
+    __asm__ volatile("" : : "r"(back), "r"(back_marks) : "memory");
+    return k != 0;
+}
+
+/* Fills the image: two of three cells are marked at random, or all. */
+static void fill(int all)
+{
+    uint32_t x = 12;
+    for (size_t i = 0; i < CELLS; i++) {
+        x = x * 1664525 + 1013904223;
+        memory[i] = x >> 24;
+        marks[i] = all || (x >> 8) % 3 != 0;
+    }
+}
+
+/* The cells that are not as rule and marks say, after a deal over k chips and a collect. */
+static size_t wrong(size_t k)
+{
+    size_t cells = 0;
+    for (size_t i = 0; i < CELLS; i++) {
+        cells += chip_marks[i % k][i / k] != marks[i] || back_marks[i] != marks[i];
+        cells += marks[i] && (chip[i % k][i / k] != memory[i] || back[i] != memory[i]);
+    }
+    return cells;
+}
+
+/* The shortest of the rounds. */
+static double shortest(uint32_t (*run)(size_t), size_t k)
+{
+    double best = 1e9;
+    for (int round = 0; round < ROUNDS; round++) {
+        double began = now();
+        if (run(k) != (run == copy))
+            exit(1);
+        double time = now() - began;
+        best = time < best ? time : best;
+    }
+    return best;
+}
+
+int main(void)
+{
+    printf("| marked | chips | deal | collect | copy, ms |\n|---|--:|--:|--:|--:|\n");
+    for (int all = 0; all <= 1; all++) {
+        fill(all);
+        for (size_t k = 2; k <= 4; k += 2) {
+            double whole = shortest(copy, k);
+            double dealt = shortest(deal, k), collected = shortest(collect, k);
+            if (wrong(k)) {
+                fprintf(stderr, "%zu cells are wrong with %zu chips\n", wrong(k), k);
+                return 1;
+            }
+            printf("| %s | %zu | %.1f | %.1f | %.2f |\n", all ? "all" : "two of three", k, dealt / whole, collected / whole, 1e3 * whole);
+        }
+    }
+    return 0;
+}

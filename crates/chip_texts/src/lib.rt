@@ -1,0 +1,1 @@
+// The canonical texts of chips, loaded and collected: statements alone.

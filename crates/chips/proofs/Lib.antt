@@ -1,0 +1,11 @@
+pub mod TestLaws
+pub mod LengthLaws
+pub mod BadLaws
+pub mod ReceiveLaws
+pub mod RenewedLaws
+pub mod ShareLaws
+pub mod ImageLaws
+pub mod FitLaws
+pub mod Facts
+pub mod PutLaws
+pub mod AnswerLaws
