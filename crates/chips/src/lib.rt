@@ -153,7 +153,7 @@ pub fn bad_row(marks: &[u8]) -> Refusal
     window::refuse(16, 0, place)
 }
 
-// The new byte where the flag is 1, and the old one where it is 0: by masks, of which the compiler makes vectors.
+// The new byte where the flag is 1, and the old one where it is 0: by masks, without a branch.
 fn choose(flag: u8, new: u8, old: u8) -> u8
     requires { ⌜ flag ≤ 1 ⌝ }
     ensures { λ r. ⌜ r ≡ chosen flag new old ⌝ }
@@ -185,7 +185,7 @@ fn receive_sized(memory: &mut [u8], marks: &mut [u8], cells: &[u8], flags: &[u8]
 }
 
 // Receives as many cells as the part that is lent has: all marks are written, and the bytes of unmarked cells stay. A row of one, two or
-// four chips is named by its size, so that the compiler makes vectors of it.
+// four chips is named by its size, so that the compiler unrolls it.
 pub fn receive(memory: &mut [u8], marks: &mut [u8], cells: &[u8], flags: &[u8])
     requires { ⌜ (length (now memory) ≤ length (now cells)) × (length (now memory) ≤ length (now flags)) × (length (now marks) ≡ length (now memory)) × (row16 (take (length (now memory)) (now flags)) ≡ false) ⌝ }
     ensures memory { λ _. ⌜ now (memory .exit) ≡ overlaid (now (memory .entry)) (image (take (length (now (memory .entry))) (now (cells .entry))) (take (length (now (memory .entry))) (now (flags .entry)))) ⌝ }

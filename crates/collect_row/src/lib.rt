@@ -23,7 +23,7 @@ fn row_sized(cells: &[u8], at: usize, size: usize) -> [u8; 16]
     row
 }
 
-// The same. A whole row is named by its size, so that the compiler makes vectors of it.
+// The same. A whole row is named by its size, so that the compiler copies it at once.
 fn row_at(cells: &[u8], at: usize, size: usize) -> [u8; 16]
     requires { ⌜ (size ≤ 16) × (0 < length (now cells) → at + size ≤ length (now cells)) ⌝ }
     ensures { λ r. ⌜ RowAt at size (now (cells .entry)) r ⌝ }
@@ -83,7 +83,7 @@ fn block_sized(rows: [[u8; 16]; 4], k: usize, size: usize) -> [u8; 64]
     spread(third, &rows[3], k, 3, size)
 }
 
-// The same. Whole rows of two and of four chips are named by their sizes, so that the compiler makes vectors of them.
+// The same. Whole rows of two and of four chips are named by their sizes, so that the compiler unrolls them.
 fn block_of(rows: [[u8; 16]; 4], k: usize, size: usize) -> [u8; 64]
     requires { ⌜ (size ≤ 16) × Count k ⌝ }
     ensures { λ r. ⌜ (length r ≡ 64) × BlockOf k size rows r ⌝ }

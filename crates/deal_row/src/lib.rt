@@ -8,6 +8,9 @@ ghost use Rattle.chips.specs.Boards.{buffersOf, boardOf};
 ghost use Rattle.chips.specs.Promises.{Count, Renewed};
 ghost use Rattle.deal_row.specs.Rows.{RowOf, RowsOf, Ready, Dealt};
 
+// A row has so many cells of each chip.
+const ROW: usize = 16;
+
 // A chip's cells among those of k chips, in a row of so many.
 fn row_of(cells: &[u8], k: usize, chip: usize, size: usize) -> [u8; 16]
     requires { ⌜ (size ≤ 16) × (chip < k) × (k * size ≤ length (now cells)) ⌝ }
@@ -23,7 +26,7 @@ fn row_of(cells: &[u8], k: usize, chip: usize, size: usize) -> [u8; 16]
 }
 
 // One dealt row a chip.
-fn rows_of(cells: &[u8], k: usize, size: usize) -> [[u8; 16]; 4]
+fn rows_sized(cells: &[u8], k: usize, size: usize) -> [[u8; 16]; 4]
     requires { ⌜ (size ≤ 16) × Count k × (k * size ≤ length (now cells)) ⌝ }
     ensures { λ r. ⌜ RowsOf k size (now (cells .entry)) r ⌝ }
 {
@@ -36,6 +39,20 @@ fn rows_of(cells: &[u8], k: usize, size: usize) -> [[u8; 16]; 4]
     rows[2] = row_of(cells, k, 2, size);
     rows[3] = row_of(cells, k, 3, size);
     rows
+}
+
+// The same. Whole rows of two and of four chips are named by their sizes, so that the compiler unrolls them.
+fn rows_of(cells: &[u8], k: usize, size: usize) -> [[u8; 16]; 4]
+    requires { ⌜ (size ≤ 16) × Count k × (k * size ≤ length (now cells)) ⌝ }
+    ensures { λ r. ⌜ RowsOf k size (now (cells .entry)) r ⌝ }
+{
+    if size != ROW {
+        return rows_sized(cells, k, size);
+    }
+    if k == 2 {
+        return rows_sized(cells, 2, ROW);
+    }
+    rows_sized(cells, 4, ROW)
 }
 
 // Puts a chip's row into its buffers, from `at` on; those of a chip that is not used are empty.
