@@ -7,6 +7,8 @@
 
 enum { CELLS = 1 << 24, CHIPS = 4, ROUNDS = 15 };
 
+static size_t cells = CELLS;
+
 /* crates/chips_c */
 uint32_t srec_deal_cells(size_t k, uint32_t base, const uint8_t *memory, size_t memory_len, const uint8_t *marks, size_t marks_len,
                          uint8_t *memory0, size_t memory0_len, uint8_t *marks0, size_t marks0_len, uint8_t *memory1, size_t memory1_len,
@@ -30,22 +32,22 @@ static double now(void)
 
 static uint32_t deal(size_t k)
 {
-    size_t n = CELLS / k, rest = k == 4 ? n : 0;
-    return srec_deal_cells(k, 0, memory, CELLS, marks, CELLS, chip[0], n, chip_marks[0], n, chip[1], n, chip_marks[1], n, chip[2], rest,
+    size_t n = cells / k, rest = k == 4 ? n : 0;
+    return srec_deal_cells(k, 0, memory, cells, marks, cells, chip[0], n, chip_marks[0], n, chip[1], n, chip_marks[1], n, chip[2], rest,
                            chip_marks[2], rest, chip[3], rest, chip_marks[3], rest);
 }
 
 static uint32_t collect(size_t k)
 {
-    size_t n = CELLS / k, rest = k == 4 ? n : 0;
-    return srec_collect_cells(k, 0, back, CELLS, back_marks, CELLS, chip[0], n, chip_marks[0], n, chip[1], n, chip_marks[1], n, chip[2],
+    size_t n = cells / k, rest = k == 4 ? n : 0;
+    return srec_collect_cells(k, 0, back, cells, back_marks, cells, chip[0], n, chip_marks[0], n, chip[1], n, chip_marks[1], n, chip[2],
                               rest, chip_marks[2], rest, chip[3], rest, chip_marks[3], rest);
 }
 
 static uint32_t copy(size_t k)
 {
-    memcpy(back, memory, CELLS);
-    memcpy(back_marks, marks, CELLS);
+    memcpy(back, memory, cells);
+    memcpy(back_marks, marks, cells);
     __asm__ volatile("" : : "r"(back), "r"(back_marks) : "memory");
     return k != 0;
 }
@@ -64,12 +66,12 @@ static void fill(int all)
 /* The cells that are not as rule and marks say, after a deal over k chips and a collect. */
 static size_t wrong(size_t k)
 {
-    size_t cells = 0;
-    for (size_t i = 0; i < CELLS; i++) {
-        cells += chip_marks[i % k][i / k] != marks[i] || back_marks[i] != marks[i];
-        cells += marks[i] && (chip[i % k][i / k] != memory[i] || back[i] != memory[i]);
+    size_t count = 0;
+    for (size_t i = 0; i < cells; i++) {
+        count += chip_marks[i % k][i / k] != marks[i] || back_marks[i] != marks[i];
+        count += marks[i] && (chip[i % k][i / k] != memory[i] || back[i] != memory[i]);
     }
-    return cells;
+    return count;
 }
 
 /* The shortest of the rounds. */
@@ -86,20 +88,27 @@ static double shortest(uint32_t (*run)(size_t), size_t k)
     return best;
 }
 
+/* A row of the table: so many cells, two of three marked or all, over k chips. */
+static void row(int all, size_t k)
+{
+    double whole = shortest(copy, k);
+    double dealt = shortest(deal, k), collected = shortest(collect, k);
+    if (wrong(k)) {
+        fprintf(stderr, "%zu cells are wrong with %zu chips\n", wrong(k), k);
+        exit(1);
+    }
+    printf("| %zu | %s | %zu | %.1f | %.1f | %.2f | %.2f | %.2f |\n", cells >> 20, all ? "all" : "two of three", k, dealt / whole, collected / whole,
+           1e9 * dealt / cells, 1e9 * collected / cells, 1e9 * whole / cells);
+}
+
 int main(void)
 {
-    printf("| marked | chips | deal | collect | copy, ms |\n|---|--:|--:|--:|--:|\n");
+    printf("| MiB | marked | chips | deal, copies | collect, copies | deal, ns a cell | collect | copy |\n|--:|---|--:|--:|--:|--:|--:|--:|\n");
     for (int all = 0; all <= 1; all++) {
         fill(all);
-        for (size_t k = 2; k <= 4; k += 2) {
-            double whole = shortest(copy, k);
-            double dealt = shortest(deal, k), collected = shortest(collect, k);
-            if (wrong(k)) {
-                fprintf(stderr, "%zu cells are wrong with %zu chips\n", wrong(k), k);
-                return 1;
-            }
-            printf("| %s | %zu | %.1f | %.1f | %.2f |\n", all ? "all" : "two of three", k, dealt / whole, collected / whole, 1e3 * whole);
-        }
+        for (cells = 1 << 20; cells <= CELLS; cells <<= 2)
+            for (size_t k = 2; k <= 4; k += 2)
+                row(all, k);
     }
     return 0;
 }

@@ -1,6 +1,8 @@
 pub mod TestLaws
 pub mod LengthLaws
 pub mod BadLaws
+pub mod FillLaws
+pub mod RowLaws
 pub mod ReceiveLaws
 pub mod RenewedLaws
 pub mod ShareLaws

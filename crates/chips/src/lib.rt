@@ -1,17 +1,16 @@
-// Chips that share an image: rows 21, 1 and 16 of dealing and collecting, and cells as they are received.
+// Chips that share an image: rows 21, 1 and 16 of dealing and collecting, and the size of a row.
 use window::Entry;
 use window::Header;
 use window::Refusal;
 ghost use mathlib.Core.Path.{_≡_};
 ghost use mathlib.Core.Bool.{not, false};
-ghost use Prim.Native.Nat.{_≤_, _<_};
-ghost use lib.ListN.{length, take};
+ghost use Prim.Native.Nat.{min, _<_};
+ghost use lib.ListN.{length};
 ghost use Rattle.window.specs.Plans.{refusal};
-ghost use Rattle.window.specs.Windows.{row16};
-ghost use Rattle.window.specs.Images.{image, overlaid};
+ghost use Rattle.window.specs.Images.{image};
 ghost use Rattle.chips.specs.Shares.{share};
 ghost use Rattle.chips.specs.Refusals.{notTwoOrFour, row21, lengthsDiffer, row16Or};
-ghost use Rattle.chips.specs.Promises.{unfit, lengthRow, chosen};
+ghost use Rattle.chips.specs.Promises.{unfit, lengthRow};
 
 // The answer of collecting: an empty header and no entry, whether it is refused or not. An accepted one has a refusal of zeros.
 pub struct Collected {
@@ -19,6 +18,9 @@ pub struct Collected {
     pub header: Header,
     pub entry: Entry,
 }
+
+// A row has so many cells of each chip.
+const ROW: usize = 16;
 
 // Behind the last address.
 const TOP: usize = 1 << 32;
@@ -142,6 +144,16 @@ pub fn length_row(
     0
 }
 
+// The cells of each chip in the next row, of so many that are left: sixteen, or all in a short last row.
+pub fn row_size(left: usize) -> usize
+    ensures { λ r. ⌜ r ≡ min left 16 ⌝ }
+{
+    if left < ROW {
+        return left;
+    }
+    ROW
+}
+
 // Row 16 of some marks: its refusal, or zeros.
 pub fn bad_row(marks: &[u8]) -> Refusal
     ensures { λ r. ⌜ r ≡ row16Or (now (marks .entry)) (refusal 0 0 0) ⌝ }
@@ -151,58 +163,4 @@ pub fn bad_row(marks: &[u8]) -> Refusal
     }
     let place = mark_bytes::bad_byte(marks);
     window::refuse(16, 0, place)
-}
-
-// The new byte where the flag is 1, and the old one where it is 0: by masks, without a branch.
-fn choose(flag: u8, new: u8, old: u8) -> u8
-    requires { ⌜ flag ≤ 1 ⌝ }
-    ensures { λ r. ⌜ r ≡ chosen flag new old ⌝ }
-{
-    let mask = 255 * flag;
-    (new & mask) | (old & (255 - mask))
-}
-
-// Lays the marked ones of some cells over as many bytes.
-fn blend(memory: &mut [u8], cells: &[u8], flags: &[u8], size: usize)
-    requires { ⌜ (length (now memory) ≡ size) × (length (now cells) ≡ size) × (length (now flags) ≡ size) × (row16 (now flags) ≡ false) ⌝ }
-    ensures { λ _. ⌜ now (memory .exit) ≡ overlaid (now (memory .entry)) (image (now (cells .entry)) (now (flags .entry))) ⌝ }
-{
-    let mut i: usize = 0;
-    while i < size {
-        memory[i] = choose(flags[i], cells[i], memory[i]);
-        i += 1;
-    }
-}
-
-// Receives `size` cells, which is as many as the part that is lent has.
-fn receive_sized(memory: &mut [u8], marks: &mut [u8], cells: &[u8], flags: &[u8], size: usize)
-    requires { ⌜ (length (now memory) ≡ size) × (size ≤ length (now cells)) × (size ≤ length (now flags)) × (length (now marks) ≡ size) × (row16 (take size (now flags)) ≡ false) ⌝ }
-    ensures memory { λ _. ⌜ now (memory .exit) ≡ overlaid (now (memory .entry)) (image (take size (now (cells .entry))) (take size (now (flags .entry)))) ⌝ }
-    ensures marks { λ _. ⌜ now (marks .exit) ≡ take size (now (flags .entry)) ⌝ }
-{
-    blend(memory, &cells[..size], &flags[..size], size);
-    bytes::copy(&flags[..size], marks);
-}
-
-// Receives as many cells as the part that is lent has: all marks are written, and the bytes of unmarked cells stay. A row of one, two or
-// four chips is named by its size, so that the compiler unrolls it.
-pub fn receive(memory: &mut [u8], marks: &mut [u8], cells: &[u8], flags: &[u8])
-    requires { ⌜ (length (now memory) ≤ length (now cells)) × (length (now memory) ≤ length (now flags)) × (length (now marks) ≡ length (now memory)) × (row16 (take (length (now memory)) (now flags)) ≡ false) ⌝ }
-    ensures memory { λ _. ⌜ now (memory .exit) ≡ overlaid (now (memory .entry)) (image (take (length (now (memory .entry))) (now (cells .entry))) (take (length (now (memory .entry))) (now (flags .entry)))) ⌝ }
-    ensures marks { λ _. ⌜ now (marks .exit) ≡ take (length (now (memory .entry))) (now (flags .entry)) ⌝ }
-{
-    let size = memory.len();
-    if size == 16 {
-        receive_sized(memory, marks, cells, flags, 16);
-        return;
-    }
-    if size == 32 {
-        receive_sized(memory, marks, cells, flags, 32);
-        return;
-    }
-    if size == 64 {
-        receive_sized(memory, marks, cells, flags, 64);
-        return;
-    }
-    receive_sized(memory, marks, cells, flags, size);
 }

@@ -21,7 +21,7 @@ use Rattle.chips.proofs.ReceiveLaws.{flag-small}
 use Rattle.chips.proofs.RenewedLaws.{renewed-all}
 use Rattle.chips.proofs.FitLaws.{collect-inv}
 use Rattle.chips.proofs.AnswerLaws.{rowOf, row-refuses, row-passes, leaves-old, leaves-image}
-use Rattle.collect_row.specs.Blocks.{Ready, Collects}
+use Rattle.collect_row.specs.Collecting.{Ready, Collects}
 use Rattle.collect_row.proofs.CollectLaws.{ready-even}
 
 module _ (k base : ℕ) (memory marks : List ℕ) (b : Board) where

@@ -13,10 +13,7 @@ ghost use Rattle.window.specs.Windows.{windowOf};
 ghost use Rattle.chips.specs.Boards.{buffersOf, boardOf};
 ghost use Rattle.chips.specs.Refusals.{row16Or};
 ghost use Rattle.chips.specs.Calls.{collectAnswer, collectedWhole};
-ghost use Rattle.collect_row.specs.Blocks.{Ready, Collects};
-
-// A row has so many cells of each chip.
-const ROW: usize = 16;
+ghost use Rattle.collect_row.specs.Collecting.{Ready, Collects};
 
 // Collects all rows, the last one of as many cells a chip as are left.
 fn collect_rows(
@@ -37,11 +34,12 @@ fn collect_rows(
 {
     let cells = memory.len() / k;
     let mut at: usize = 0;
-    while cells - at >= ROW {
+    while at < cells {
+        let size = chips::row_size(cells - at);
         collect_row::collect_row(
             k,
             at,
-            ROW,
+            size,
             memory,
             marks,
             memory0,
@@ -53,23 +51,8 @@ fn collect_rows(
             memory3,
             marks3,
         );
-        at += ROW;
+        at += size;
     }
-    collect_row::collect_row(
-        k,
-        at,
-        cells - at,
-        memory,
-        marks,
-        memory0,
-        marks0,
-        memory1,
-        marks1,
-        memory2,
-        marks2,
-        memory3,
-        marks3,
-    );
 }
 
 // Row 16 of the marks of four chips, the lowest chip first: its refusal, or zeros.

@@ -1,10 +1,10 @@
 -- One row collected from each chip.
-use mathlib.Core.Path.{_≡_, sym, ap, _∙_}
+use mathlib.Core.Path.{_≡_, refl, sym, ap, _∙_}
 use Prim.Native.Nat.{ℕ, _+_, _*_, _-_, _/_, _%_, _≤_, _<_}
 use native.Mathlib.Nat.{mul-le-mul-left}
 use native.Mathlib.Omega.{arith}
 use mathlib.Core.Bool.{false}
-use mathlib.Core.List.{List, []}
+use mathlib.Core.List.{List, [], _∷_}
 use lib.ListN.{length, getD, take, length-take}
 use lib.Seq.{getD-take}
 use Rattle.window.specs.Windows.{row16}
@@ -12,11 +12,12 @@ use Rattle.chips.specs.Shares.{share}
 use Rattle.chips.specs.Boards.{Buffers, Board, chipAt}
 use Rattle.chips.specs.Promises.{Renewed}
 use Rattle.chips.proofs.TestLaws.{some-chips, at-most-four}
-use Rattle.chips.proofs.ShareLaws.{Even, even, row-end, row-low, row-high, share-in, used}
+use Rattle.chips.proofs.ShareLaws.{Even, even, row-end, row-low, row-high, share-in}
 use Rattle.chips.proofs.ReceiveLaws.{flag-small, small-clean}
 use Rattle.chips.proofs.RenewedLaws.{renewed-none, renewed-more, renewed-same}
 use Rattle.chips.proofs.FitLaws.{by-four}
-use Rattle.collect_row.specs.Blocks.{RowAt, RowsAt, BlockOf, Ready, Collects}
+use Rattle.blocks.specs.Blocks.{RowsAt, Reach, BlockOf}
+use Rattle.collect_row.specs.Collecting.{Ready, Collects}
 
 -- the whole is collected evenly
 pub ready-even : (k : ℕ) (whole : Buffers) (b : Board) → Ready k whole b → Even k (length (whole .memory))
@@ -36,43 +37,40 @@ module _ (k : ℕ) (whole : Buffers) (b : Board) (r : Ready k whole b) (at size 
   pub small : k * (at + size) - k * at ≤ 64
   small = omega (arith, mul-le-mul-left k few, at-most-four k (r .count))
 
-  -- a chip with a cell has the row
-  in-use : (c m : ℕ) → m ≡ share k c n → 0 < m → (c < k) × (at + size ≤ m)
-  in-use c m q h =
-      let s = used k c n 0 (rw q at h) in
-      (s .0, rw (q ∙ share-in k c n (s .0)) room)
-
-  pub memory-asks : (c : ℕ) → c < 4 → 0 < length (chipAt b c .memory) → at + size ≤ length (chipAt b c .memory)
-  memory-asks c u h = in-use c (length (chipAt b c .memory)) (r .shares c u .0) h .1
-
-  pub marks-asks : (c : ℕ) → c < 4 → 0 < length (chipAt b c .marks) → at + size ≤ length (chipAt b c .marks)
-  marks-asks c u h = in-use c (length (chipAt b c .marks)) (r .shares c u .1) h .1
-
   -- one list of each chip: its memory, or its marks
-  module _ (lists : ℕ → List ℕ) (long : (c : ℕ) → c < 4 → length (lists c) ≡ share k c n) (rows : List (List ℕ)) (block : List ℕ)
-      (p : RowsAt at size (lists 0) (lists 1) (lists 2) (lists 3) rows) (q : BlockOf k size rows block) where
-    row-of : (c : ℕ) → c < 4 → RowAt at size (lists c) (getD rows c [])
-    row-of = by-four (λ c. RowAt at size (lists c) (getD rows c [])) (p .0) (p .1) (p .2) (p .3)
+  module _ (lists : ℕ → List ℕ) (long : (c : ℕ) → c < 4 → length (lists c) ≡ share k c n) where
+    abbrev chips : List (List ℕ)
+    chips = lists 0 ∷ lists 1 ∷ lists 2 ∷ lists 3 ∷ []
 
-    -- a cell of the block is that of its chip
-    block-cell : (j : ℕ) → k * at ≤ j → j < k * (at + size) → getD block (j - k * at) 0 ≡ getD (lists (j % k)) (j / k) 0
-    block-cell j l h =
-        let c : ℕ = j % k in
-        let u : c < k = e .chip j in
+    own : (c : ℕ) → c < 4 → getD chips c [] ≡ lists c
+    own = by-four (λ c. getD chips c [] ≡ lists c) refl refl refl refl
+
+    -- each of the k chips has the row
+    pub has-row : Reach k (at + size) chips
+    has-row c u =
         let v : c < 4 = omega (arith, at-most-four k (r .count)) in
-        let o : k * (j / k) + c ≡ j = e .joined j in
-        let low : at ≤ j / k = row-low k at j (e .some) l in
-        let high : j / k < at + size = row-high k (at + size) j (e .some) h in
-        let i : ℕ = j / k - at in
-        let s : at + i ≡ j / k = omega arith in
-        let t : j - k * at ≡ k * i + c = omega (arith, ap (λ (x : ℕ). k * x) s) in
-        ap (λ (x : ℕ). getD block x 0) t ∙ q c i u (omega arith)
-        ∙ row-of c v i (omega arith) (omega (arith, long c v, share-in k c n u)) ∙ ap (λ (x : ℕ). getD (lists c) x 0) s
+        rw (own c v, long c v, share-in k c n u) room
 
-  -- what `receive` asks of the flags, and what it leaves
+    module _ (rows : List (List ℕ)) (block : List ℕ) (p : RowsAt k at size chips rows) (q : BlockOf k size rows block) where
+      -- a cell of the block is that of its chip
+      block-cell : (j : ℕ) → k * at ≤ j → j < k * (at + size) → getD block (j - k * at) 0 ≡ getD (lists (j % k)) (j / k) 0
+      block-cell j l h =
+          let c : ℕ = j % k in
+          let u : c < k = e .chip j in
+          let v : c < 4 = omega (arith, at-most-four k (r .count)) in
+          let o : k * (j / k) + c ≡ j = e .joined j in
+          let low : at ≤ j / k = row-low k at j (e .some) l in
+          let high : j / k < at + size = row-high k (at + size) j (e .some) h in
+          let i : ℕ = j / k - at in
+          let s : at + i ≡ j / k = omega arith in
+          let t : j - k * at ≡ k * i + c = omega (arith, ap (λ (x : ℕ). k * x) s) in
+          ap (λ (x : ℕ). getD block x 0) t ∙ q c i u (omega arith)
+          ∙ p c u i (omega arith) ∙ (λ x. getD (own c v x) (s x) 0)
+
+  -- what `receive_rows` asks of the flags, and what it leaves
   module _ (cells flags : List ℕ) (rows marked : List (List ℕ)) (b₀ : BlockOf k size rows cells) (b₁ : BlockOf k size marked flags)
-      (r₀ : RowsAt at size (chipAt b 0 .memory) (chipAt b 1 .memory) (chipAt b 2 .memory) (chipAt b 3 .memory) rows)
-      (r₁ : RowsAt at size (chipAt b 0 .marks) (chipAt b 1 .marks) (chipAt b 2 .marks) (chipAt b 3 .marks) marked) where
+      (r₀ : RowsAt k at size (chipAt b 0 .memory ∷ chipAt b 1 .memory ∷ chipAt b 2 .memory ∷ chipAt b 3 .memory ∷ []) rows)
+      (r₁ : RowsAt k at size (chipAt b 0 .marks ∷ chipAt b 1 .marks ∷ chipAt b 2 .marks ∷ chipAt b 3 .marks ∷ []) marked) where
     flag-cell : (j : ℕ) → k * at ≤ j → j < k * (at + size) → getD flags (j - k * at) 0 ≡ getD (chipAt b (j % k) .marks) (j / k) 0
     flag-cell = block-cell (λ c. chipAt b c .marks) (λ c u. r .shares c u .1) marked flags r₁ b₁
 

@@ -21,7 +21,7 @@ use Rattle.chips.proofs.ReceiveLaws.{flag-small}
 use Rattle.chips.proofs.RenewedLaws.{renewed-all}
 use Rattle.chips.proofs.FitLaws.{deal-inv}
 use Rattle.chips.proofs.AnswerLaws.{rowOf, row-refuses, row-passes, leaves-old, leaves-image}
-use Rattle.deal_row.specs.Rows.{Ready, Dealt}
+use Rattle.deal_row.specs.Dealing.{Ready, Dealt}
 use Rattle.deal_row.proofs.DealLaws.{ready-even}
 
 module _ (k base : ℕ) (memory marks : List ℕ) (b : Board) where

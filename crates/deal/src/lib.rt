@@ -7,10 +7,7 @@ ghost use Rattle.window.specs.Windows.{windowOf};
 ghost use Rattle.chips.specs.Boards.{buffersOf, boardOf};
 ghost use Rattle.chips.specs.Refusals.{dealRefusal};
 ghost use Rattle.chips.specs.Calls.{dealtChip};
-ghost use Rattle.deal_row.specs.Rows.{Ready, Dealt};
-
-// A row has so many cells of each chip.
-const ROW: usize = 16;
+ghost use Rattle.deal_row.specs.Dealing.{Ready, Dealt};
 
 // Deals all rows, the last one of as many cells a chip as are left.
 fn deal_rows(
@@ -31,11 +28,12 @@ fn deal_rows(
 {
     let cells = memory.len() / k;
     let mut at: usize = 0;
-    while cells - at >= ROW {
+    while at < cells {
+        let size = chips::row_size(cells - at);
         deal_row::deal_row(
             k,
             at,
-            ROW,
+            size,
             memory,
             marks,
             memory0,
@@ -47,23 +45,8 @@ fn deal_rows(
             memory3,
             marks3,
         );
-        at += ROW;
+        at += size;
     }
-    deal_row::deal_row(
-        k,
-        at,
-        cells - at,
-        memory,
-        marks,
-        memory0,
-        marks0,
-        memory1,
-        marks1,
-        memory2,
-        marks2,
-        memory3,
-        marks3,
-    );
 }
 
 // Deals a window over k chips, or says which row refuses that and changes nothing. The chips have base / k and length / k cells; with

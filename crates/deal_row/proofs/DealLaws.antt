@@ -14,7 +14,8 @@ use Rattle.chips.proofs.TestLaws.{some-chips}
 use Rattle.chips.proofs.ShareLaws.{Even, even, row-inside, row-end, share-in, used}
 use Rattle.chips.proofs.ReceiveLaws.{flag-small, small-clean}
 use Rattle.chips.proofs.RenewedLaws.{renewed-none, renewed-more, renewed-same}
-use Rattle.deal_row.specs.Rows.{RowsOf, Ready, Dealt}
+use Rattle.rows.specs.Rows.{RowsOf}
+use Rattle.deal_row.specs.Dealing.{Ready, Dealt}
 
 -- the whole is dealt evenly
 pub ready-even : (k : ℕ) (memory marks : List ℕ) (b : Board) → Ready k memory marks b → Even k (length memory)

@@ -1,59 +1,12 @@
 // One row of an image dealt over two or four memory chips: sixteen cells a chip.
 ghost use mathlib.Core.Path.{_≡_};
 ghost use mathlib.Core.Bool.{false};
-ghost use Prim.Native.Nat.{_+_, _-_, _*_, _/_, _≤_, _<_};
+ghost use Prim.Native.Nat.{_+_, _-_, _/_, _≤_, _<_};
 ghost use lib.ListN.{length, getD, take};
 ghost use Rattle.window.specs.Windows.{row16};
 ghost use Rattle.chips.specs.Boards.{buffersOf, boardOf};
-ghost use Rattle.chips.specs.Promises.{Count, Renewed};
-ghost use Rattle.deal_row.specs.Rows.{RowOf, RowsOf, Ready, Dealt};
-
-// A row has so many cells of each chip.
-const ROW: usize = 16;
-
-// A chip's cells among those of k chips, in a row of so many.
-fn row_of(cells: &[u8], k: usize, chip: usize, size: usize) -> [u8; 16]
-    requires { ⌜ (size ≤ 16) × (chip < k) × (k * size ≤ length (now cells)) ⌝ }
-    ensures { λ r. ⌜ RowOf k chip size (now (cells .entry)) r ⌝ }
-{
-    let mut row = [0u8; 16];
-    let mut i: usize = 0;
-    while i < size {
-        row[i] = cells[k * i + chip];
-        i += 1;
-    }
-    row
-}
-
-// One dealt row a chip.
-fn rows_sized(cells: &[u8], k: usize, size: usize) -> [[u8; 16]; 4]
-    requires { ⌜ (size ≤ 16) × Count k × (k * size ≤ length (now cells)) ⌝ }
-    ensures { λ r. ⌜ RowsOf k size (now (cells .entry)) r ⌝ }
-{
-    let mut rows = [[0u8; 16]; 4];
-    rows[0] = row_of(cells, k, 0, size);
-    rows[1] = row_of(cells, k, 1, size);
-    if k == 2 {
-        return rows;
-    }
-    rows[2] = row_of(cells, k, 2, size);
-    rows[3] = row_of(cells, k, 3, size);
-    rows
-}
-
-// The same. Whole rows of two and of four chips are named by their sizes, so that the compiler unrolls them.
-fn rows_of(cells: &[u8], k: usize, size: usize) -> [[u8; 16]; 4]
-    requires { ⌜ (size ≤ 16) × Count k × (k * size ≤ length (now cells)) ⌝ }
-    ensures { λ r. ⌜ RowsOf k size (now (cells .entry)) r ⌝ }
-{
-    if size != ROW {
-        return rows_sized(cells, k, size);
-    }
-    if k == 2 {
-        return rows_sized(cells, 2, ROW);
-    }
-    rows_sized(cells, 4, ROW)
-}
+ghost use Rattle.chips.specs.Promises.{Renewed};
+ghost use Rattle.deal_row.specs.Dealing.{Ready, Dealt};
 
 // Puts a chip's row into its buffers, from `at` on; those of a chip that is not used are empty.
 fn put_row(
@@ -71,7 +24,7 @@ fn put_row(
         return;
     }
     let to = at + size;
-    chips::receive(&mut memory[at..to], &mut marks[at..to], cells, flags);
+    receiving::receive_row(&mut memory[at..to], &mut marks[at..to], cells, flags);
 }
 
 // Deals one row: `size` cells a chip, from cell `at` of each chip on.
@@ -95,8 +48,9 @@ pub fn deal_row(
 {
     let from = k * at;
     let end = k * (at + size);
-    let cells = rows_of(&memory[from..end], k, size);
-    let flags = rows_of(&marks[from..end], k, size);
+    let rows = rows::rows_of(&memory[from..end], &marks[from..end], k, size);
+    let cells = rows[0];
+    let flags = rows[1];
     put_row(memory0, marks0, at, size, &cells[0], &flags[0]);
     put_row(memory1, marks1, at, size, &cells[1], &flags[1]);
     put_row(memory2, marks2, at, size, &cells[2], &flags[2]);

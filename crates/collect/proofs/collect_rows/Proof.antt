@@ -1,13 +1,14 @@
 -- `collect_rows` meets its contract. The loop's invariant: the whole has received the first `at` cells of each chip.
 use mathlib.Core.Path.{_≡_, ap, _∙_, subst}
-use Prim.Native.Nat.{ℕ, _+_, _*_, _-_, _/_, _≤_}
-use native.Mathlib.Nat.{div-le-self, mul-le-mul-left}
+use Prim.Native.Nat.{ℕ, _+_, _*_, _-_, _/_, _≤_, _<_}
+use native.Mathlib.Nat.{div-le-self}
 use native.Mathlib.Omega.{arith}
 use lib.ListN.{length}
 use Rattle.chips.specs.Boards.{Buffers, Board, buffersOf, boardOf}
 use Rattle.chips.proofs.TestLaws.{some-chips}
-use Rattle.collect_row.specs.Blocks.{Ready, Collects}
+use Rattle.collect_row.specs.Collecting.{Ready, Collects}
 use Rattle.collect_row.proofs.CollectLaws.{ready-even, ready-after, collects-none, collects-more}
+use borrow.Author.Needs.{needs}
 use Rattle.collect.proofs.collect_rows.Statement.{statement}
 use Rattle.collect.proofs.collect_rows.Tie as tie
 
@@ -20,15 +21,12 @@ abbrev μ-loop : tie.MeasureT-loop
 μ-loop k memory₀ marks₀ memory0 marks0 memory1 marks1 memory2 marks2 memory3 marks3 cells at₀ memory marks at =
     length memory₀ / k - at
 
--- the places: the call, and the calls for a row
+-- the places: the call, and the size of a row
 abbrev start : tie.After-shared-slice-known8 Inv-loop μ-loop → tie.Start Inv-loop μ-loop
 start c = c .before .before .before .before .before .before .before .before .before .before
 
-abbrev head : tie.After-collect-row-arg2 Inv-loop μ-loop → tie.In-loop Inv-loop μ-loop
-head c = c .before .before
-
-abbrev tail : tie.After-collect-row-arg4 Inv-loop μ-loop → tie.After-loop Inv-loop μ-loop
-tail c = c .before .before
+abbrev row : tie.After-collect-row-arg2 Inv-loop μ-loop → tie.After-row-size Inv-loop μ-loop
+row c = c .before .before
 
 -- the chips; the whole at the call, and at the loop's head
 abbrev board : tie.Start Inv-loop μ-loop → Board
@@ -57,47 +55,43 @@ loop-holds c =
     let z : s .args .k * 0 ≡ 0 = omega arith in
     (omega arith, rw z (collects-none (s .args .k) (board s) 0 (whole s)))
 
-collect-row-requires : tie.Need-collect-row-requires Inv-loop μ-loop
-collect-row-requires c κs = let l = head c .before in (omega arith, omega (arith, same l), ready l)
+-- the next row: its size, which is not zero, and within the chip
+within : (c : tie.After-row-size Inv-loop μ-loop) → let l = c .before .before in let n = c .row-size .result in
+    (0 < n) × (n ≤ 16) × (l .loop .at + n ≤ length (start (l .before) .args .memory .now) / start (l .before) .args .k)
+within c = let e = c .row-size .ensures in (omega (arith, e), omega (arith, e), omega (arith, e))
 
-add-at : tie.Need-add-at Inv-loop μ-loop
-add-at c =
-    let i = head (c .before .before .before .before .before) in
-    let s = start (i .before .before) in
-    omega (arith, s .pre .reach, div-le-self (length (s .args .memory .now)) (s .args .k), i .loop-test .taken, i .before .loop .inv .0)
+collect-row-requires : tie.Need-collect-row-requires Inv-loop μ-loop
+collect-row-requires c κs =
+    let w = within (row c) in
+    let l = row c .before .before in
+    (w .1, omega (arith, w .2, same l), ready l)
+
+-- behind a row
+abbrev size : tie.After-slice-known4 Inv-loop μ-loop → tie.After-row-size Inv-loop μ-loop
+size c = row (c .before .before .before .before .before)
 
 loop-again : tie.Need-loop-again Inv-loop μ-loop
 loop-again c =
     let d = c .before .before .before .before in
-    let l = head (d .before) .before in
+    let n = size c in
+    let l = n .before .before in
     let s = start (l .before) in
     let k = s .args .k in
-    let after : Buffers = buffersOf (d .collect-row .last .1 .1 .1 .0) (d .collect-row .last .1 .1 .1 .1 .0) in
-    (omega arith, collects-more k (board s) 0 (k * l .loop .at) (k * (l .loop .at + 16)) (whole s) (here l) after (omega arith) (omega arith) (l .loop .inv .1) (d .collect-row .ensures))
+    let after : Buffers = buffersOf (d .collect-row .last .1 .1 .1 .0) (d .collect-row .last .1 .1 .1 .1 .0) in (
+      within n .2,
+      collects-more k (board s) 0 (k * l .loop .at) (k * (l .loop .at + n .row-size .result)) (whole s) (here l) after (omega arith) (omega arith) (l .loop .inv .1) (d .collect-row .ensures),
+    )
 
-collect-row-requires-2 : tie.Need-collect-row-requires-2 Inv-loop μ-loop
-collect-row-requires-2 c κs = let l = tail c .before in (omega arith, omega (arith, same l), ready l)
-
--- the whole at the end
-abbrev ended : tie.After-slice-known6 Inv-loop μ-loop → tie.After-collect-row2 Inv-loop μ-loop
-ended c = c .before .before .before .before
-
-abbrev begun : tie.After-collect-row2 Inv-loop μ-loop → tie.Start Inv-loop μ-loop
-begun d = start (tail (d .before) .before .before)
-
-collected : (d : tie.After-collect-row2 Inv-loop μ-loop)
-    → let s = begun d in Collects (s .args .k) (board s) 0 (length (s .args .memory .now)) (whole s) (buffersOf (d .collect-row2 .last .1 .1 .1 .0) (d .collect-row2 .last .1 .1 .1 .1 .0))
-collected d =
-    let l = tail (d .before) .before in
-    let s = begun d in
+-- the loop ends behind the last cell
+ended : (c : tie.After-loop Inv-loop μ-loop)
+    → let s = start (c .before .before) in Collects (s .args .k) (board s) 0 (length (s .args .memory .now)) (whole s) (here (c .before))
+ended c =
+    let l = c .before .loop in
+    let s = start (c .before .before) in
     let k = s .args .k in
-    let n = length (s .args .memory .now) in
-    let after : Buffers = buffersOf (d .collect-row2 .last .1 .1 .1 .0) (d .collect-row2 .last .1 .1 .1 .1 .0) in
-    let q : l .loop .at + (n / k - l .loop .at) ≡ n / k = omega (arith, l .loop .inv .0) in
-    let e : k * (l .loop .at + (n / k - l .loop .at)) ≡ n = ap (λ (x : ℕ). k * x) q ∙ ready-even k (whole s) (board s) (s .pre) .whole in
-    let h : k * l .loop .at ≤ n = omega (arith, e, mul-le-mul-left k (l .loop .inv .0), ready-even k (whole s) (board s) (s .pre) .whole) in
-    collects-more k (board s) 0 (k * l .loop .at) n (whole s) (here l) after (omega arith) h (l .loop .inv .1)
-    (subst (λ (to : ℕ). Collects k (board s) (k * l .loop .at) to (here l) after) e (d .collect-row2 .ensures))
+    let q : l .at ≡ length (s .args .memory .now) / k = omega (arith, l .inv .0) in
+    let e : k * l .at ≡ length (s .args .memory .now) = ap (λ (x : ℕ). k * x) q ∙ ready-even k (whole s) (board s) (s .pre) .whole in
+    subst (λ (to : ℕ). Collects k (board s) 0 to (whole s) (here (c .before))) e (l .inv .1)
 
 pub collect-rows-spec : {M : Type 1} → statement M
 collect-rows-spec =
@@ -108,12 +102,14 @@ collect-rows-spec =
     (λ c. omega (arith, some-chips (start c .args .k) (start c .pre .count)))
     loop-holds
     (λ c. omega arith)
+    (λ c κs. search needs)
     collect-row-requires
-    add-at
-    (λ c. omega arith)
+    (λ c.
+    let n = size c in
+    let s = start (n .before .before .before) in
+    omega (arith, s .pre .reach, div-le-self (length (s .args .memory .now)) (s .args .k), within n .2))
+    (λ c. let w = within (size c) in omega (arith, w .0, w .2))
     loop-again
-    (λ c. omega arith)
-    collect-row-requires-2
-    (λ c. collected (ended c) .memory-long)
-    (λ c. collected (ended c) .marks-long)
-    (λ c. collected (ended c)))
+    (λ c. ended c .memory-long)
+    (λ c. ended c .marks-long)
+    ended)

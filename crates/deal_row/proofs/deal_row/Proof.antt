@@ -1,5 +1,5 @@
 -- `deal_row` meets its contract: the rows of all chips, and then chip by chip.
-use mathlib.Core.Path.{_≡_, sym, _∙_}
+use mathlib.Core.Path.{_≡_, refl, sym, _∙_}
 use Prim.Native.Nat.{ℕ, _+_, _*_, _≤_, _<_}
 use native.Mathlib.Nat.{div-le-self}
 use native.Mathlib.Omega.{arith}
@@ -20,11 +20,11 @@ use Rattle.deal_row.proofs.deal_row.Tie as tie
 abbrev start : tie.After-slice-known8 → tie.Start
 start c = c .before .before .before .before .before .before .before .before .before .before
 
-abbrev known : tie.After-rows-of2 → tie.After-slice-known8
-known d = d .before .before .before .before
+abbrev known : tie.After-rows-of → tie.After-slice-known8
+known d = d .before .before .before
 
-abbrev rows : tie.After-put-row-arg4 → tie.After-rows-of2
-rows c = c .before .before .before .before
+abbrev rows : tie.After-put-row-arg4 → tie.After-rows-of
+rows c = c .before .before .before .before .before .before
 
 abbrev first : tie.After-put-row-arg8 → tie.After-put-row
 first c = c .before .before .before .before .before .before .before .before
@@ -57,17 +57,24 @@ long c whole e =
     cut-length (a .k) (length (a .memory .now)) (a .at) (a .size) (ready-even (a .k) (a .memory .now) (a .marks .now) (board s) (s .pre .2)) (s .pre .1) whole e
 
 -- what is known of a chip's buffers and of its row
-same-lengths : (d : tie.After-rows-of2) (c : ℕ) → c < 4
+same-lengths : (d : tie.After-rows-of) (c : ℕ) → c < 4
     → let b = board (start (known d)) in length (chipAt b c .marks) ≡ length (chipAt b c .memory)
 same-lengths d c u = let r = start (known d) .pre .2 in r .shares c u .1 ∙ sym (r .shares c u .0)
 
-asks : (d : tie.After-rows-of2) (c : ℕ) → c < 4 → let s = start (known d) in let a = s .args in
+asks : (d : tie.After-rows-of) (c : ℕ) → c < 4 → let s = start (known d) in let a = s .args in
     0 < length (chipAt (board s) c .memory)
-    → (a .at + a .size ≤ length (chipAt (board s) c .memory)) × (row16 (take (a .size) (getD (d .rows-of2 .result) c [])) ≡ false)
+    → (a .at + a .size ≤ length (chipAt (board s) c .memory)) × (row16 (take (a .size) (getD (getD (d .rows-of .result) 1 []) c [])) ≡ false)
 asks d c u =
     let s = start (known d) in
     let a = s .args in
-    put-asks (a .k) (a .memory .now) (a .marks .now) (board s) (s .pre .2) (a .at) (a .size) (s .pre .1) (d .rows-of2 .result) (d .rows-of2 .ensures) c u
+    put-asks (a .k) (a .memory .now) (a .marks .now) (board s) (s .pre .2) (a .at) (a .size) (s .pre .1) (getD (d .rows-of .result) 1 []) (d .rows-of .ensures .1) c u
+
+rows-of-requires : tie.Need-rows-of-requires
+rows-of-requires c κs =
+    let k = c .before .before in
+    let s = start k in
+    let a = s .args in
+    (s .pre .0, s .pre .2 .count, omega (arith, long k (a .memory .now) refl), omega (arith, long k (a .marks .now) (s .pre .2 .long)))
 
 put-row-requires : tie.Need-put-row-requires
 put-row-requires c κs = let d = rows c in (start (known d) .pre .0, same-lengths d 0 (omega arith), asks d 0 (omega arith))
@@ -90,18 +97,18 @@ returns c =
     let d = rows (p₀ .before) in
     let s = start (known d) in
     let a = s .args in
-    let dealt = put-dealt (a .k) (a .memory .now) (a .marks .now) (board s) (s .pre .2) (a .at) (a .size) (s .pre .1) (d .rows-of2 .result) (d .rows-of2 .ensures) in
-    let cells = d .before .before .rows-of in
+    let dealt = put-dealt (a .k) (a .memory .now) (a .marks .now) (board s) (s .pre .2) (a .at) (a .size) (s .pre .1) (getD (d .rows-of .result) 1 []) (d .rows-of .ensures .1) in
+    let cells = getD (d .rows-of .result) 0 [] in
     let after : Board
     = boardOf (p₀ .put-row .last .0) (p₀ .put-row .last .1 .0) (p₁ .put-row2 .last .0) (p₁ .put-row2 .last .1 .0) (p₂ .put-row3 .last .0) (p₂ .put-row3 .last .1 .0)
     (p₃ .put-row4 .last .0) (p₃ .put-row4 .last .1 .0) in
     by-four
     (λ n.
     Renewed (λ j. getD (a .memory .now) (a .k * j + n) 0) (λ j. getD (a .marks .now) (a .k * j + n) 0) (a .at) (a .at + a .size) (chipAt (board s) n) (chipAt after n))
-    (dealt 0 (omega arith) (cells .result) (cells .ensures) (after .first) (p₀ .put-row .ensures))
-    (dealt 1 (omega arith) (cells .result) (cells .ensures) (after .second) (p₁ .put-row2 .ensures))
-    (dealt 2 (omega arith) (cells .result) (cells .ensures) (after .third) (p₂ .put-row3 .ensures))
-    (dealt 3 (omega arith) (cells .result) (cells .ensures) (after .fourth) (p₃ .put-row4 .ensures))
+    (dealt 0 (omega arith) cells (d .rows-of .ensures .0) (after .first) (p₀ .put-row .ensures))
+    (dealt 1 (omega arith) cells (d .rows-of .ensures .0) (after .second) (p₁ .put-row2 .ensures))
+    (dealt 2 (omega arith) cells (d .rows-of .ensures .0) (after .third) (p₂ .put-row3 .ensures))
+    (dealt 3 (omega arith) cells (d .rows-of .ensures .0) (after .fourth) (p₃ .put-row4 .ensures))
 
 pub deal-row-spec : {M : Type 1} → statement M
 deal-row-spec =
@@ -113,11 +120,12 @@ deal-row-spec =
     (λ c. search needs)
     (λ c. search needs)
     (λ c. omega (arith, ends c))
-    (λ c κs. search needs)
     (λ c. search needs)
     (λ c. search needs)
-    (λ c. omega (arith, ends (c .before .before), start (c .before .before) .pre .2 .long))
-    (λ c κs. search needs)
+    (λ c. omega (arith, ends (c .before), start (c .before) .pre .2 .long))
+    rows-of-requires
+    (λ c. search needs)
+    (λ c. search needs)
     (λ c. search needs)
     (λ c. search needs)
     put-row-requires

@@ -17,8 +17,8 @@ used : (c : tie.Else1) → let a = c .before .before .before .args in
     (a .at + a .size ≤ length (a .memory .now)) × (row16 (take (a .size) (a .flags .now)) ≡ false)
 used c = c .before .before .before .pre .2 (omega arith)
 
-receive-requires : tie.Need-receive-requires
-receive-requires c κs =
+receive-row-requires : tie.Need-receive-row-requires
+receive-row-requires c κs =
     let e = c .before .before .before .before in
     let s = e .before .before .before in
     let a = s .args in
@@ -26,7 +26,7 @@ receive-requires c κs =
     let p : length (take (a .at + a .size - a .at) (drop (a .at) (a .memory .now))) ≡ a .size = lent-length (a .memory .now) (a .at) (a .size) (u .0) in
     let q : length (take (a .at + a .size - a .at) (drop (a .at) (a .marks .now))) ≡ a .size
     = lent-length (a .marks .now) (a .at) (a .size) (rw (s .pre .1) (u .0)) in
-    (omega (arith, p), omega (arith, p), q ∙ sym p, rw p (u .1))
+    record { few = omega (arith, p); cells-long = omega (arith, p); flags-long = omega (arith, p); same = q ∙ sym p; clean = rw p (u .1) }
 
 returns-2 : tie.Need-returns-2
 returns-2 c =
@@ -37,7 +37,7 @@ returns-2 c =
     let u = used e in
     let k : a .at + a .size - a .at ≡ a .size = add-sub-cancel-left (a .at) (a .size) in
     part-received (a .memory .now) (a .marks .now) (a .cells .now) (a .flags .now) (a .at) (a .at + a .size) (omega arith) (u .0) (s .pre .1)
-    (omega (arith, k)) (omega (arith, k)) _ _ (r .receive .ensures .0) (r .receive .ensures .1)
+    (omega (arith, k)) (omega (arith, k)) _ _ (r .receive-row .ensures .0) (r .receive-row .ensures .1)
 
 pub put-row-spec : {M : Type 1} → statement M
 put-row-spec =
@@ -51,7 +51,7 @@ put-row-spec =
     (λ c. search needs)
     (λ c. search needs)
     (λ c. omega (arith, used (c .before) .0, c .before .before .before .before .pre .1))
-    receive-requires
+    receive-row-requires
     (λ c. search needs)
     (λ c. search needs)
     returns-2)
