@@ -24,11 +24,12 @@ use Rattle.window.proofs.RowLaws.{allowed-inv, allowed-is}
 use Rattle.window.proofs.ViewLaws.{length-overlaid, shown-marked}
 use Rattle.text.specs.Formats.{Format, plan}
 use Rattle.text.specs.Load.{load, loadAnswer}
-use Rattle.text.specs.Write.{textOf}
-use Rattle.text.specs.Terms.{Accepted, HoldsCells, after}
+use Rattle.text.specs.Write.{textOf, row17, write}
+use Rattle.text.specs.Write.WriteOutcome.{wrote}
+use Rattle.text.specs.Terms.{Accepted, HoldsCells, after, textHeader, textEntry}
 use Rattle.text.proofs.FormatLaws.{Limits, HeaderOk, EntryOk, Storable, Lawful}
 use Rattle.text.proofs.LoadLaws.{canonicalSummary}
-use Rattle.text.proofs.LoadLaws.{load-inv, marks-are}
+use Rattle.text.proofs.LoadLaws.{write-is, load-inv, marks-are}
 use Rattle.text.proofs.RoundTrip.{text-cells, refilled, load-canonical, cells-back}
 use Rattle.srec.specs.Formats.{srec}
 use Rattle.srec.proofs.LimitLaws.{limits}
@@ -46,7 +47,7 @@ use Rattle.chips.proofs.ShareLaws.{Even, even, share-least, share-out}
 use Rattle.chips.proofs.ImageLaws.{image-clean, length-image, shows}
 use Rattle.chips.proofs.FitLaws.{by-four, Has, deal-inv, collect-is}
 use Rattle.chips.proofs.Facts.{dealt-has, dealt-shows, deal-by-address, collect-by-address}
-use Rattle.chip_texts.specs.Texts.{chipText, chipOf, loadedChip, loadedBoard, Restored, Texts-restore, Tapes-restore}
+use Rattle.chip_texts.specs.Texts.{chipText, loadWindow, loadedChip, loadedBoard, Restored, Texts-restore, Tapes-restore}
 
 -- what every format needs: its limits hold an empty header, the entry, and the address of each cell on its chip
 module _ (F : Format) (L : Limits) (laws : Lawful F L) (e : Entry) (no-header : HeaderOk L []) (has-entry : EntryOk L e)
@@ -68,7 +69,7 @@ module _ (F : Format) (L : Limits) (laws : Lawful F L) (e : Entry) (no-header : 
       C = chipWindow k (W .base) (dealtChip k W b c)
 
       abbrev D : Window
-      D = chipOf k W v c
+      D = loadWindow k W v c
 
       abbrev cs : List Cell
       cs = shown C
@@ -134,6 +135,17 @@ module _ (F : Format) (L : Limits) (laws : Lawful F L) (e : Entry) (no-header : 
       loads : Accepted F D t
       loads = ap (λ (x : Loaded). x .refusal .reason) (ap loadAnswer loads-as)
 
+      -- its header and entry are those it was written with
+      titled : textHeader F t ≡ []
+      titled = sym (load-inv F L laws D t (canonicalSummary F L laws cs [] e) img loads-as .header)
+
+      entered : textEntry F t ≡ e
+      entered = sym (load-inv F L laws D t (canonicalSummary F L laws cs [] e) img loads-as .entry)
+
+      -- the writer gives it
+      writes : (room : ℕ) → row17 (textOf F C [] e) room ≡ false → write F C [] e room ≡ wrote (textOf F C [] e)
+      writes room r = write-is F L laws C [] e room allowed-C clean-C storable r
+
       long-img : length (D .memory) ≡ length img
       long-img = load-inv F L laws D t (canonicalSummary F L laws cs [] e) img loads-as .long
 
@@ -194,7 +206,14 @@ module _ (F : Format) (L : Limits) (laws : Lawful F L) (e : Entry) (no-header : 
 
       restored : Restored F e k R W b v
       unfolding chipText textOf
-      restored = record { loads = loads; collects = collects; same-cells = same-cells }
+      restored = record {
+        writes = λ c room u r. writes c u room r;
+        no-header = titled;
+        its-entry = entered;
+        loads = loads;
+        collects = collects;
+        same-cells = same-cells;
+      }
 
 -- the chips' texts restore the image
 pub texts-restore : Texts-restore

@@ -85,7 +85,7 @@ fn answer(refusal: Refusal) -> Collected
     }
 }
 
-// Collects k chips into a window, or says which row refuses that and changes nothing. The chips have base / k and length / k cells;
+// Collects k chips into a window, or says which row refuses that and changes nothing. The chips begin at base / k and have length / k cells;
 // with two chips the third and fourth chip's buffers are empty.
 pub fn collect(
     k: usize,

@@ -49,7 +49,7 @@ fn deal_rows(
     }
 }
 
-// Deals a window over k chips, or says which row refuses that and changes nothing. The chips have base / k and length / k cells; with
+// Deals a window over k chips, or says which row refuses that and changes nothing. The chips begin at base / k and have length / k cells; with
 // two chips the third and fourth chip's buffers are empty.
 pub fn deal(
     k: usize,
