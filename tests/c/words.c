@@ -1,11 +1,11 @@
-/* words: srec_reason has words of their own for 0 to 21, and none for other numbers. */
+/* words: srec_reason has words of their own for 0 to 24, and none for other numbers. */
 #include <limits.h>
 #include <string.h>
 
 #include "check.h"
 #include "srec.h"
 
-enum { LAST = 21 };
+enum { LAST = 24 };
 
 int main(void)
 {

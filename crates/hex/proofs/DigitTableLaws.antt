@@ -5,9 +5,9 @@ use native.Mathlib.Nat.{add-zero, zero-add, add-suc, suc-add, not-suc-le-zero, l
 use native.Mathlib.Omega.{arith}
 use mathlib.Core.Bool.{true, false, and-false, not, _||_}
 use mathlib.Core.List.{List, [], _∷_}
-use lib.Dec.{T, leb, eqb, eqb→eq}
+use lib.Dec.{T, leb, ltb, eqb, eqb→eq}
 use lib.ListN.{length, getD, drop, length-drop}
-use borrow.Author.Tests.{le-leb, lt-leb}
+use borrow.Author.Tests.{le-leb, lt-leb, lt-ltb}
 use Rattle.hex.specs.Digits.{between, isHex, value, byteOf, bytes, firstBad}
 use Rattle.hex.specs.Numbers.{sum}
 use Rattle.hex.specs.Tables.{digitOr16, tableFrom, weight, digitTable, weighed}
@@ -97,6 +97,15 @@ value-none c h =
   where
     never : true ≡ false → ⊥
     never q = let z : _≡_ {A = ℕ} 0 1 = cc in omega arith
+
+-- what the entry of a character tells: is it a digit, and what it stands for
+pub entry-digit : (c : ℕ) → ltb (digitOr16 c) 16 ≡ isHex c
+unfolding digitOr16
+entry-digit c = by-test (isHex c) (λ e. rw e (lt-ltb (value c) 16 (value-small c))) (λ e. rw e)
+
+pub entry-value : (c : ℕ) → digitOr16 c % 16 ≡ value c
+unfolding digitOr16
+entry-value c = by-test (isHex c) (λ e. rw e (omega (arith, value-small c))) (λ e. rw e (sym (value-none c e)))
 
 -- a digit's weight is its value
 weight-digit : (c : ℕ) → isHex c ≡ true → weight c ≡ value c

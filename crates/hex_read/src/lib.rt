@@ -17,7 +17,7 @@ const CAPITAL: u8 = b'A' - 10;
 const SMALL: u8 = b'a' - 10;
 
 // The value of a digit of either case; 16 for a character that is none.
-fn digit_of(c: u8) -> u8
+pub fn digit_of(c: u8) -> u8
     ensures { λ r. ⌜ r ≡ digitOr16 c ⌝ }
 {
     match c {

@@ -2,8 +2,9 @@
 //
 // A case is a heading line, then the text itself, every character of it, up to the next `@`. The heading is `@`, the window's base,
 // `:`, its number of cells, both in eight hex digits, and a name, as in `@0000FFFE:00000002 the last cells`. Before the name stands a
-// space for S-records, `;` for a paper tape whose last line repeats its number, and `+` for one whose last line has the usual sum. A `%`
-// between that sign and the name stores the marks packed, all bits set before; an accepted text's marks are printed then.
+// space for S-records, `$` for S-records behind a symbol block, `;` for a paper tape whose last line repeats its number, and `+` for one
+// whose last line has the usual sum. A `%` between that sign and the name stores the marks packed, all bits set before; an accepted
+// text's marks are printed then. Behind a symbol block marks are bytes.
 use convert::Converted;
 use formats::Format;
 use libc::STDIN_FILENO;
@@ -44,9 +45,10 @@ fn print_canonical(
     }
 }
 
-// Writes what a load left in a window with packed marks.
-fn write_packed(
+// Writes what a load left in a window.
+fn write_window(
     format: Format,
+    form: Form,
     base: u32,
     memory: &[u8],
     marks: &[u8],
@@ -55,25 +57,36 @@ fn write_packed(
     out: &mut [u8],
 ) -> Written {
     match format {
-        Format::Records => srec_write::write_as(
-            Form::Packed,
-            base,
-            memory,
-            marks,
-            header,
-            entry,
-            out,
-        ),
-        Format::Tape(edition) => tape_write::write_as(
-            edition,
-            Form::Packed,
-            base,
-            memory,
-            marks,
-            header,
-            entry,
-            out,
-        ),
+        Format::Records => { srec_write::write_as(form, base, memory, marks, header, entry, out) }
+        Format::Tape(edition) => {
+            tape_write::write_as(edition, form, base, memory, marks, header, entry, out)
+        }
+    }
+}
+
+// The canonical text of what a load left in a window, or why it is refused.
+fn print_window(
+    format: Format,
+    form: Form,
+    loaded: Loaded,
+    base: u32,
+    memory: &[u8],
+    marks: &[u8],
+    out: &mut [u8],
+) {
+    let header = loaded.header;
+    let bytes = header.bytes;
+    let len = marks::smaller(header.len, MOST_HEADER);
+    let entry = loaded.entry;
+    let written = write_window(format, form, base, memory, marks, &bytes[..len], entry, out);
+    let refusal = written.refusal;
+    if refusal.reason != 0 {
+        printing::print_refusal(refusal);
+        io::write_all(STDOUT_FILENO, b"\n");
+        return;
+    }
+    if written.length <= out.len() {
+        io::write_all(STDOUT_FILENO, &out[..written.length]);
     }
 }
 
@@ -89,20 +102,27 @@ fn print_packed(
     io::write_all(STDOUT_FILENO, b"marks ");
     printing::print_pairs(marks);
     io::write_all(STDOUT_FILENO, b"\n");
-    let header = loaded.header;
-    let bytes = header.bytes;
-    let len = marks::smaller(header.len, MOST_HEADER);
-    let entry = loaded.entry;
-    let written = write_packed(format, base, memory, marks, &bytes[..len], entry, out);
-    let refusal = written.refusal;
+    print_window(format, Form::Packed, loaded, base, memory, marks, out);
+}
+
+// Loads a text behind a symbol block and prints the answer, and the canonical text if there is one.
+fn run_behind(base: u32, text: &[u8], memory: &mut [u8], marks: &mut [u8], out: &mut [u8]) {
+    mark_bytes::fill(marks, 255);
+    let loaded = symbol_load::load_behind(text, base, memory, marks);
+    printing::print_answer(loaded);
+    let refusal = loaded.refusal;
     if refusal.reason != 0 {
-        printing::print_refusal(refusal);
-        io::write_all(STDOUT_FILENO, b"\n");
         return;
     }
-    if written.length <= out.len() {
-        io::write_all(STDOUT_FILENO, &out[..written.length]);
-    }
+    print_window(
+        Format::Records,
+        Form::Bytes,
+        loaded,
+        base,
+        memory,
+        marks,
+        out,
+    );
 }
 
 // Loads a text and prints the answer, and the canonical text if there is one.
@@ -166,6 +186,16 @@ fn run_window(table: &[u32; 256], heading: &[u8], text: &[u8])
     let mut memory = io::large_buffer();
     let mut marks = io::large_buffer();
     let mut out = io::large_buffer();
+    if heading[18] == b'$' {
+        run_behind(
+            base,
+            text,
+            &mut memory[..cells],
+            &mut marks[..cells],
+            &mut out,
+        );
+        return;
+    }
     run_text(
         format,
         form,

@@ -1,0 +1,2 @@
+mod AgainLaws
+pub mod BlockLaws

@@ -1,0 +1,3 @@
+pub mod CountLaws
+mod NumberLaws
+pub mod SameLaws
