@@ -1,1 +1,1 @@
-mod LoadLaws
+pub mod LoadLaws

@@ -1,0 +1,3 @@
+mod ReadLaws
+mod SumLaws
+mod WholeLaws

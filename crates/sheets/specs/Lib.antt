@@ -1,0 +1,3 @@
+pub mod Sheets
+pub mod Facts
+pub mod Cases
