@@ -15,6 +15,7 @@ mod odd;
 pub mod overlays;
 pub mod packed;
 pub mod series;
+pub mod sheets;
 pub mod tapes;
 mod valid;
 mod writes;

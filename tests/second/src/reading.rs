@@ -50,6 +50,14 @@ impl Loaded {
             cells: 0,
         }
     }
+
+    /// Neither header nor entry nor cells.
+    pub(crate) fn nothing(refusal: Refusal) -> Loaded {
+        Loaded {
+            refusal,
+            ..Loaded::refused(0, 0, 0, 0)
+        }
+    }
 }
 
 /// The answer of the writer: the text's length, which is 0 after a refusal.
@@ -194,7 +202,7 @@ pub(crate) static SREC: Format = Format {
 /// rows 4 to 6 turn away the lines where this would matter.
 pub(crate) struct Record<'a> {
     format: &'static Format,
-    place: usize,
+    pub place: usize,
     pub line: &'a [u8],
 }
 
@@ -300,7 +308,7 @@ impl Record<'_> {
     }
 }
 
-fn hex_value(character: u8) -> Option<u8> {
+pub(crate) fn hex_value(character: u8) -> Option<u8> {
     match character {
         b'0'..=b'9' => Some(character - b'0'),
         b'A'..=b'F' => Some(character - b'A' + 10),

@@ -242,7 +242,7 @@ impl Drawing {
 }
 
 /// A window that passes 2^32, often by one cell.
-fn pass_top(random: &mut Random, limits: Limits, case: &mut LoadCase) {
+pub(super) fn pass_top(random: &mut Random, limits: Limits, case: &mut LoadCase) {
     let length = random.size(2, limits.window);
     let some = random.size(1, length - 1);
     let past = random.pick(&[1, some]);
@@ -252,7 +252,7 @@ fn pass_top(random: &mut Random, limits: Limits, case: &mut LoadCase) {
 }
 
 /// Marks of another length than the memory.
-fn unequal_marks(random: &mut Random, limits: Limits, case: &mut LoadCase) {
+pub(super) fn unequal_marks(random: &mut Random, limits: Limits, case: &mut LoadCase) {
     let right = case.memory.len();
     let any = random.size(0, limits.window);
     let other = random.pick(&[0, right.saturating_sub(1), right + 1, any]);
