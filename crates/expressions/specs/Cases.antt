@@ -27,7 +27,7 @@ case text row worth = record { text = codes text; row = row; worth = worth }
 abbrev nested : ℕ → List ℕ
 nested n = replicate n 40 ++ codes "$1" ++ replicate n 41
 
--- the table of the examples: two names, one in both cases
+-- the table of the examples: two names that differ in a capital, and one of 16 characters
 abbrev pub table : List ℕ
 table = codes "start $1000 Start $2000\nsize16characters $10"
 
@@ -66,6 +66,9 @@ cases =
     ∷ case "x+$1-$2+" 25 0
     ∷ record { text = nested 32; row = 0; worth = 1 }
     ∷ record { text = nested 33; row = 25; worth = 0 }
+    ∷ record { text = nested 32 ++ codes "+" ++ nested 32; row = 0; worth = 2 }
+    ∷ case "$5-($3-$4)" 27 0
+    ∷ case "$5+($FFFFFFFF+$1)" 27 0
     ∷ []
 
 abbrev agrees : Worth → Case → Bool

@@ -17,21 +17,21 @@ pub data Read : Type 0 where
   tree : Tree → ℕ → Read
   bad : Read
 
--- how many characters of a stretch of hex digits stand there
+-- how many hex digits stand there, one after the other
 unfoldable pub digitsAt : List ℕ → ℕ → ℕ
 digitsAt s at = counted Hex (drop at s)
 
--- "1 to 8 hex digits", as many as there are
+-- a number behind its `$`: "1 to 8 hex digits", as many as there are
 unfoldable pub numberAt : List ℕ → ℕ → Read
 numberAt s at =
     cond (eqb (digitsAt s at) 0) bad
     (cond (ltb 8 (digitsAt s at)) bad (tree (number (numberIn (take (digitsAt s at) (drop at s)))) (at + digitsAt s at)))
 
--- how many letters and digits stand there
+-- how many letters and digits stand there, one after the other
 unfoldable pub wordAt : List ℕ → ℕ → ℕ
 wordAt s at = counted Alnum (drop at s)
 
--- a name of at most 16 letters and digits, as many as there are; the first is a letter
+-- a name where a letter stands, as `termBy` sees to: at most 16 letters and digits, as many as there are
 unfoldable pub nameAt : List ℕ → ℕ → Read
 nameAt s at = cond (ltb 16 (wordAt s at)) bad (tree (name (take (wordAt s at) (drop at s))) (at + wordAt s at))
 
@@ -40,7 +40,7 @@ unfoldable pub closedAt : List ℕ → Read → Read
 closedAt s (tree t at) = cond (eqb (getD s at 0) (char ")")) (tree t (at + 1)) bad
 closedAt s bad = bad
 
--- a term: `$` and a number, `(` and what `inner` reads, or a name
+-- a term: `$` and digits, `(` and what `inner` reads, or a letter and what a name has besides
 unfoldable pub termBy : (ℕ → Read) → List ℕ → ℕ → Read
 termBy inner s at =
     cond (eqb (getD s at 0) (char "$")) (numberAt s (at + 1))
@@ -65,7 +65,7 @@ moreBy term s zero r = r
 moreBy term s (suc n) (tree t at) = nextBy (moreBy term s n) term s t at
 moreBy term s (suc n) bad = bad
 
--- a sum; a text has fewer signs than characters
+-- a sum; a text has no more signs than characters
 unfoldable pub sumBy : (ℕ → Read) → List ℕ → ℕ → Read
 sumBy inner s at = moreBy (termBy inner s) s (length s) (termBy inner s at)
 

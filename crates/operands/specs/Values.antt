@@ -19,13 +19,13 @@ known S (name n) = isSome (meaning S n)
 known S (plus a b) = known S a && known S b
 known S (minus a b) = known S a && known S b
 
--- "each intermediate result must lie in 0 to 4,294,967,295"
+-- a sum, unless it passes 4,294,967,295: "each intermediate result must lie in 0 to 4,294,967,295"
 abbrev pub added : Option ℕ → Option ℕ → Option ℕ
 added none y = none
 added (some v) none = none
 added (some v) (some w) = cond (ltb (v + w) (2 ^ 32)) (some (v + w)) none
 
--- the same for a difference
+-- a difference, unless it is below 0
 abbrev pub taken : Option ℕ → Option ℕ → Option ℕ
 taken none y = none
 taken (some v) none = none
@@ -62,9 +62,11 @@ worthOf S s = judged S (expression s)
 
 -- ---- what the reading functions answer: the verdict on what was read, and the place behind it
 
+-- a verdict, and a place
 abbrev pub partOf : Worth → ℕ → Part
 partOf w at = record { row = w .row; value = w .value; next = at }
 
+-- what is told of something read; 0 is the place where nothing was
 abbrev pub told : List Symbol → Read → Part
 told S (tree t at) = partOf (verdict S t) at
 told S bad = partOf (refused 25) 0

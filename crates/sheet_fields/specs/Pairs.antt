@@ -1,4 +1,4 @@
--- One pair of fields of a patch sheet, as it is read (Req 13).
+-- One pair of fields of a patch sheet, as the reading functions take it (Req 13); sheets `Sheets` says what a sheet means.
 use Prim.Native.Nat.{ℕ, _+_}
 use mathlib.Core.Bool.{cond}
 use mathlib.Core.List.{List}

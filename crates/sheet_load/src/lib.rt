@@ -36,6 +36,7 @@ fn place_sheet(table: &[u8], sheet: &[u8], base: u32, memory: &mut [u8], marks: 
 }
 
 // Loads a patch sheet, with the symbols of a text's symbol block, into a window. Of the text nothing behind the block is read.
+// The place of rows 22 to 24 is one in the text, that of rows 25 to 27, 12 and 13 one in the sheet.
 pub fn load_sheet(
     text: &[u8],
     sheet: &[u8],

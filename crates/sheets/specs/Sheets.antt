@@ -24,7 +24,7 @@ use Rattle.sheet_fields.specs.Fields.{Field, fields, isField}
 abbrev pub summary : ℕ → ℕ → Summary
 summary pairs cells = record { header = []; entry = Absent; records = pairs; cells = cells }
 
--- an address f and its bytes g, k fields being read: row 25 of f, rows 25 to 27 of its text, row 25 of g; then the rest
+-- an address f and its bytes g, k fields standing before them: row 25 of f, rows 25 to 27 of its text, row 25 of g; then the rest
 unfoldable pub pairPlan : ℕ → Field → Worth → Field → Plan → Plan
 pairPlan k f w g rest =
     cond (not (isField 1 f)) (stop (refusal 25 (suc k) (f .place)))

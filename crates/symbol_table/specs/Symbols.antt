@@ -28,7 +28,7 @@ abbrev pub meaning : List Symbol → List ℕ → Option ℕ
 meaning [] name = none
 meaning (s ∷ ss) name = let r = meaning ss name in cond (same (s .name) name) (some (s .value)) r
 
--- a name is a symbol
+-- it stands for something
 abbrev pub isSome : Option ℕ → Bool
 isSome none = false
 isSome (some v) = true
