@@ -101,7 +101,7 @@ uint32_t srec_load_tape(uint32_t edition, const uint8_t *text, size_t text_len, 
 size_t srec_write_tape(uint32_t edition, uint32_t base, const uint8_t *memory, size_t memory_len, const uint8_t *marks,
                        size_t marks_len, uint8_t *out, size_t out_len);
 
-/* The words for a row, or for 0; NULL for a number that is no row. No function here gives rows 18 to 24. */
+/* The words for a row, or for 0; NULL for a number that is no row. No function here gives rows 18 to 27. */
 static inline const char *srec_reason(unsigned number)
 {
     static const char *const words[] = {
@@ -130,6 +130,9 @@ static inline const char *srec_reason(unsigned number)
         "a line is none of a symbol block, or the block has no last line $$",
         "a symbol's name stands twice in the block",
         "the block has more than 1,024 symbols",
+        "a field of a patch sheet is bad, or its address is no expression",
+        "a name in an expression is no symbol",
+        "a result in an expression is below 0 or above 4,294,967,295",
     };
     return number < sizeof words / sizeof words[0] ? words[number] : NULL;
 }

@@ -5,7 +5,7 @@
 #include "check.h"
 #include "srec.h"
 
-enum { LAST = 24 };
+enum { LAST = 27 };
 
 int main(void)
 {

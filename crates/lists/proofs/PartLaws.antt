@@ -3,9 +3,9 @@ use mathlib.Core.Path.{_≡_, _∙_}
 use Prim.Native.Nat.{ℕ, zero, suc, _+_, _-_, _≤_, min}
 use native.Mathlib.Nat.{zero-add, add-sub-cancel-left}
 use native.Mathlib.Omega.{arith}
-use mathlib.Core.List.{List, [], _∷_}
+use mathlib.Core.List.{List, [], _∷_, _++_, append-nil}
 use lib.Dec.{ltb}
-use lib.ListN.{length, take, drop, length-drop}
+use lib.ListN.{length, take, drop, length-drop, drop-of-length-le}
 use lib.Seq.{take-all, take-nil, length-take-le}
 use borrow.Author.Tests.{ltb-true, ltb-false}
 use Rattle.lists.proofs.TestLaws.{by-test}
@@ -35,3 +35,7 @@ part-long l i j h k = length-take-le (j - i) (drop i l) (omega (arith, length-dr
 -- a part of n bytes that is lent has n bytes
 pub lent-length : (m : List ℕ) (from n : ℕ) → from + n ≤ length m → length (take (from + n - from) (drop from m)) ≡ n
 lent-length m from n h = part-long m from (from + n) (omega arith) h ∙ add-sub-cancel-left from n
+
+-- a list copied over another as long as it
+pub copied : (src dst : List ℕ) → length dst ≡ length src → take (length src) src ++ drop (length src) dst ≡ src
+copied src dst h = rw (take-all (length src) src (omega arith), drop-of-length-le dst {i = length src} (omega arith), append-nil)

@@ -3,9 +3,9 @@ use mathlib.Core.Path.{_≡_, sym, ap, _∙_}
 use Prim.Native.Nat.{ℕ, zero, suc, _-_, _*_, _≤_, _<_}
 use native.Mathlib.Omega.{arith}
 use mathlib.Core.Bool.{false}
-use mathlib.Core.List.{List, _++_, append-nil}
+use mathlib.Core.List.{List, _++_}
 use lib.Bits.{bitAnd, bitOr, and-zero-r, or-zero-l, or-zero-r, and-mask}
-use lib.ListN.{length, getD, take, drop, drop-of-length-le}
+use lib.ListN.{length, getD, take}
 use lib.Seq.{take-all, take-append-seam, length-take-le, getD-take, ext-getD}
 use Rattle.window.specs.Windows.{row16}
 use Rattle.window.specs.Images.{overlaid, image}
@@ -40,10 +40,6 @@ module _ (old cells flags bytes : List ℕ) (n : ℕ) (fit : n ≤ length bytes)
       let l : i < n = rw (length-take-le n bytes fit) at h in
       getD-take n bytes i 0 l ∙ r i l
       ∙ sym (laid-at old (take n cells) (take n flags) i p q (omega arith) ∙ (λ t. chosen (getD-take n flags i 0 l t) (getD-take n cells i 0 l t) (getD old i 0))))
-
--- as many flags as marks, copied over them
-pub copied : (flags marks : List ℕ) → length marks ≡ length flags → take (length flags) flags ++ drop (length flags) marks ≡ flags
-copied flags marks h = rw (take-all (length flags) flags (omega arith), drop-of-length-le marks {i = length flags} (omega arith), append-nil)
 
 -- flags copied to the front of a list
 pub front : (flags out rest : List ℕ) (n : ℕ) → length flags ≡ n → out ≡ take (length flags) flags ++ rest → take n out ≡ flags

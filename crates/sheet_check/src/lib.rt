@@ -40,20 +40,15 @@ pub fn check_sheet(table: &[u8], sheet: &[u8], base: usize, marks: &mut [u8]) ->
                 from,
                 to,
             } => {
-                let reason = claims::claim(
-                    Form::Bytes,
-                    marks,
-                    marks.len(),
-                    base,
-                    address as usize,
-                    to - from,
-                );
+                let first = address as usize;
+                let size = to - from;
+                let reason = claims::claim(Form::Bytes, marks, marks.len(), base, first, size);
                 if reason != 0 {
                     return Checked::Refused(window::refuse(reason, fields + 2, place));
                 }
                 fields += 2;
                 records += 1;
-                cells += to - from;
+                cells += size;
                 at = to;
                 continue;
             }

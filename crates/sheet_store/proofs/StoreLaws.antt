@@ -4,9 +4,8 @@ use Prim.Native.Nat.{ℕ, zero, suc, _+_, _-_, _≤_}
 use native.Mathlib.Nat.{add-zero}
 use native.Mathlib.Omega.{arith}
 use mathlib.Core.Bool.{false}
-use mathlib.Core.List.{List, [], _∷_, _++_, append-nil}
-use lib.ListN.{length, take, drop, drop-of-length-le, take-append-drop}
-use lib.Seq.{take-all}
+use mathlib.Core.List.{List, [], _∷_}
+use lib.ListN.{length, take-append-drop}
 use Rattle.lists.proofs.TestLaws.{by-test}
 use Rattle.window.specs.declared.Refusal.{Refusal}
 use Rattle.lists.specs.Lists.{over}
@@ -27,12 +26,6 @@ use Rattle.sheet_fields.specs.Pairs.{pairAt}
 use Rattle.sheets.specs.Sheets.{Accepts}
 use Rattle.sheets.proofs.TurnLaws.{bytesAt}
 use Rattle.sheets.proofs.WalkLaws.{wholeOf, Walk, walk-start, walk-end, walk-bad, store-within, walk-store, walk-put}
-
--- ---- copying
-
--- all bytes are copied
-pub copy-all : (d s : List ℕ) → length d ≡ length s → take (length s) s ++ drop (length s) d ≡ s
-copy-all d s e = rw (take-all (length s) s (omega arith), drop-of-length-le d {i = length s} (omega arith), append-nil)
 
 -- ---- bytes in the middle of memory
 

@@ -51,7 +51,7 @@ pair-said k f w g rest s rs sum q h =
     (λ a. by-test (eqb (w .row) 0)
     (λ b. by-test (isField 2 g)
     (λ c. let e : Ends rest s rs sum = h (rw (a, b, c) at q) in
-        record { runs = rw (a, b, c) (ap {B = List Run} (λ (r : List Run). record { addr = w .value; bytes = g .bytes } ∷ r) (e .runs)); sums = e .sums })
+    record { runs = rw (a, b, c) (ap {B = List Run} (λ (r : List Run). record { addr = w .value; bytes = g .bytes } ∷ r) (e .runs)); sums = e .sums })
     (λ c. absurd (no-stop _ s (rw (a, b, c) at q))))
     (λ b. absurd (no-stop _ s (rw (a, b) at q))))
     (λ a. absurd (no-stop _ s (rw a at q)))
@@ -70,7 +70,7 @@ fields-said S k n c (f ∷ []) s q = absurd (no-stop _ s q)
 fields-said S k n c (f ∷ g ∷ fs) s q =
     pair-said k f (worthOf S (f .bytes)) g (planned S (suc (suc k)) (suc n) (c + length (g .bytes)) fs) s (said S fs) _ q
     (λ e. let r = fields-said S (suc (suc k)) (suc n) (c + length (g .bytes)) fs s e in
-        record { runs = r .runs; sums = r .sums ∙ counts _ _ _ _ (omega arith) (omega arith) })
+    record { runs = r .runs; sums = r .sums ∙ counts _ _ _ _ (omega arith) (omega arith) })
 
 module _ (W : Window) (text sheet : List ℕ) (s : Summary) (img : Image) where
   -- an accepted sheet stands behind a good block, and its plan is placed

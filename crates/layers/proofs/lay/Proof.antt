@@ -2,11 +2,10 @@
 use mathlib.Core.Path.{_≡_, sym, ap, _∙_, subst}
 use Prim.Native.Nat.{ℕ, _-_, _≤_, _<_}
 use native.Mathlib.Omega.{arith}
-use mathlib.Core.List.{List, _++_, append-nil}
-use lib.ListN.{length, take, drop, length-drop, drop-of-length-le}
-use lib.Seq.{take-all}
+use mathlib.Core.List.{List}
+use lib.ListN.{length, take, drop, length-drop}
 use Rattle.lists.specs.Lists.{over}
-use Rattle.lists.proofs.PartLaws.{part-long}
+use Rattle.lists.proofs.PartLaws.{part-long, copied}
 use Rattle.lists.proofs.OverLaws.{lent-over}
 use Rattle.window.proofs.WalkLaws.{gap-inside}
 use Rattle.marks.specs.Forms.{flags}
@@ -70,11 +69,6 @@ module _ (c : tie.After-run-end Inv-loop μ-loop) where
   memory-long : length (take (to - from) (drop from (loop .loop .memory))) ≡ to - from
   memory-long = part-long (loop .loop .memory) from to (run-inside .0) (omega (arith, run-inside .1, loop .loop .inv .1 .long))
 
--- a part that is copied over another as long as it
-copied : (src dst out : List ℕ) (n : ℕ) → length src ≡ n → length dst ≡ n → out ≡ take (length src) src ++ drop (length src) dst → out ≡ src
-copied src dst out n a b e =
-    e ∙ rw (take-all (length src) src (omega arith), drop-of-length-le dst {i = length src} (omega arith), append-nil)
-
 run-end-requires : tie.Need-run-end-requires Inv-loop μ-loop
 run-end-requires c κs =
     let s = c .before .before .before .before .before .before in
@@ -94,7 +88,7 @@ loop-again : tie.Need-loop-again Inv-loop μ-loop
 loop-again c =
     let at-copy = c .before .before in
     let d = at-copy .before .before .before in
-    let part = copied _ _ _ (to d - from d) (bytes-long d) (memory-long d) (at-copy .copy .ensures .1) in (
+    let part = at-copy .copy .ensures .1 ∙ copied _ _ (memory-long d ∙ sym (bytes-long d)) in (
       run-inside d .1,
       subst (Laid (memory d) (call d .args .bytes .now) (own d) (to d))
           (sym (lent-over (from d) (to d - from d) (loop d .loop .memory) _ (sym (ap length part ∙ bytes-long d)) ∙ ap (over (loop d .loop .memory) (from d)) part))

@@ -3,8 +3,8 @@ use mathlib.Core.Path.{_≡_, sym, ap, _∙_}
 use native.Mathlib.Omega.{arith}
 use lib.ListN.{length, take}
 use lib.Seq.{length-take-le}
+use Rattle.lists.proofs.PartLaws.{copied}
 use Rattle.window.proofs.ViewLaws.{length-overlaid}
-use Rattle.receiving.proofs.ReceiveLaws.{copied}
 use borrow.Author.Needs.{needs}
 use Rattle.receiving.proofs.receive.Statement.{statement}
 use Rattle.receiving.proofs.receive.Tie as tie

@@ -46,12 +46,11 @@ returns-2 c =
     let a = l .before .before .before .before .args in
     rw (c .refuse .ensures) (told-bad (symbolsIn (a .table .now)) (a .sheet .now) (a .base) (length (a .marks .now)) (l .loop .marks) (l .loop .at) (l .loop .fields) (l .loop .records) (l .loop .cells) (l .loop .inv .1) (c .before .before .before .before .pair-at .result) (c .before .before .before .before .pair-at .ensures) _ _ _ (c .before .before .pair .given .1))
 
-sub-claim : tie.Need-sub-claim Inv-loop μ-loop
-sub-claim c =
-    let s = c .before in
-    let l = s .before .before .before .before in
+sub-size : tie.Need-sub-size Inv-loop μ-loop
+sub-size c =
+    let l = c .before .before .before .before in
     let a = l .before .before .before .before .args in
-    omega (arith, where-at (symbolsIn (a .table .now)) (a .sheet .now) (a .base) (length (a .marks .now)) (l .loop .marks) (l .loop .at) (l .loop .fields) (l .loop .records) (l .loop .cells) (l .loop .inv .1) (s .before .before .before .pair-at .result) (s .before .before .before .pair-at .ensures) (s .before .pair2 .given .0 .0) (s .before .pair2 .given .0 .1 .0) (s .before .pair2 .given .0 .1 .1 .0) (s .before .pair2 .given .0 .1 .1 .1 .0) (s .before .pair2 .given .1) .1)
+    omega (arith, where-at (symbolsIn (a .table .now)) (a .sheet .now) (a .base) (length (a .marks .now)) (l .loop .marks) (l .loop .at) (l .loop .fields) (l .loop .records) (l .loop .cells) (l .loop .inv .1) (c .before .before .before .pair-at .result) (c .before .before .before .pair-at .ensures) (c .before .pair2 .given .0 .0) (c .before .pair2 .given .0 .1 .0) (c .before .pair2 .given .0 .1 .1 .0) (c .before .pair2 .given .0 .1 .1 .1 .0) (c .before .pair2 .given .1) .1)
 
 add-refuse-2 : tie.Need-add-refuse-2 Inv-loop μ-loop
 add-refuse-2 c =
@@ -85,13 +84,6 @@ add-records c =
     let a = l .before .before .before .before .args in
     let w = where-at (symbolsIn (a .table .now)) (a .sheet .now) (a .base) (length (a .marks .now)) (l .loop .marks) (l .loop .at) (l .loop .fields) (l .loop .records) (l .loop .cells) (l .loop .inv .1) (s .before .before .before .pair-at .result) (s .before .before .before .pair-at .ensures) (s .before .pair2 .given .0 .0) (s .before .pair2 .given .0 .1 .0) (s .before .pair2 .given .0 .1 .1 .0) (s .before .pair2 .given .0 .1 .1 .1 .0) (s .before .pair2 .given .1) in
     omega (arith, l .loop .inv .1 .few .1, w)
-
-sub-cells : tie.Need-sub-cells Inv-loop μ-loop
-sub-cells c =
-    let s = c .before .before .before .before .before in
-    let l = s .before .before .before .before in
-    let a = l .before .before .before .before .args in
-    omega (arith, where-at (symbolsIn (a .table .now)) (a .sheet .now) (a .base) (length (a .marks .now)) (l .loop .marks) (l .loop .at) (l .loop .fields) (l .loop .records) (l .loop .cells) (l .loop .inv .1) (s .before .before .before .pair-at .result) (s .before .before .before .pair-at .ensures) (s .before .pair2 .given .0 .0) (s .before .pair2 .given .0 .1 .0) (s .before .pair2 .given .0 .1 .1 .0) (s .before .pair2 .given .0 .1 .1 .1 .0) (s .before .pair2 .given .1) .1)
 
 add-cells : tie.Need-add-cells Inv-loop μ-loop
 add-cells c =
@@ -135,7 +127,7 @@ check-sheet-spec =
     returns-2
     (λ c. search needs)
     (λ c. search needs)
-    sub-claim
+    sub-size
     (λ c κs. search needs)
     add-refuse-2
     (λ c κs. search needs)
@@ -143,7 +135,6 @@ check-sheet-spec =
     returns-3
     add-fields
     add-records
-    sub-cells
     add-cells
     loop-less
     loop-again)

@@ -5,9 +5,9 @@ use native.Mathlib.Nat.{add-sub-cancel-left}
 use native.Mathlib.Omega.{arith}
 use lib.ListN.{length, take, drop}
 use Rattle.lists.specs.Lists.{over}
-use Rattle.lists.proofs.PartLaws.{lent-length}
+use Rattle.lists.proofs.PartLaws.{lent-length, copied}
 use Rattle.lists.proofs.OverLaws.{lent-over}
-use Rattle.sheet_store.proofs.StoreLaws.{copy-all, over-none, in-window}
+use Rattle.sheet_store.proofs.StoreLaws.{over-none, in-window}
 use borrow.Author.Needs.{needs}
 use Rattle.sheet_store.proofs.store_bytes.Statement.{statement}
 use Rattle.sheet_store.proofs.store_bytes.Tie as tie
@@ -39,8 +39,8 @@ returns-2 c =
     let i = a .address - a .base in
     let n = length (a .bytes .now) in
     let long : length (take (i + n - i) (drop i (a .memory .now))) ≡ n = lent-length (a .memory .now) i n (omega (arith, in-at e)) in
-    let copied = p .copy .ensures .1 ∙ copy-all _ (a .bytes .now) long in
-    lent-over i (i + n - i) (a .memory .now) (p .copy .last .1 .0) (add-sub-cancel-left i n ∙ ap length (sym copied)) ∙ ap (over (a .memory .now) i) copied
+    let stored = p .copy .ensures .1 ∙ copied (a .bytes .now) _ long in
+    lent-over i (i + n - i) (a .memory .now) (p .copy .last .1 .0) (add-sub-cancel-left i n ∙ ap length (sym stored)) ∙ ap (over (a .memory .now) i) stored
 
 pub store-bytes-spec : {M : Type 1} → statement M
 store-bytes-spec =
