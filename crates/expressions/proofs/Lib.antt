@@ -1,3 +1,3 @@
-mod ReadLaws
+pub mod ReadLaws
 mod SumLaws
 mod WholeLaws

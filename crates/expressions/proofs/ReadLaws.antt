@@ -39,7 +39,7 @@ unfolding isLetter between
 no-letter s at h = rw (List·getD-eq-default s 0 h)
 
 -- where a letter stands, a word does
-word-some : (s : List ℕ) (at : ℕ) → isLetter (getD s at 0) ≡ true → 1 ≤ wordAt s at
+pub word-some : (s : List ℕ) (at : ℕ) → isLetter (getD s at 0) ≡ true → 1 ≤ wordAt s at
 unfolding wordAt
 word-some s at e = by-test (ltb at (length s)) (λ l. here (ltb-true at (length s) l)) (λ l. absurd (never (sym e ∙ no-letter s at (ltb-false at (length s) l))))
   where

@@ -1,0 +1,1 @@
+// The normal form of an expression's text: statements alone.
