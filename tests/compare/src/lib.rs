@@ -8,8 +8,9 @@
 //! patches over a base image, by way of the program `patches`. `grouping` asks of
 //! that program what must hold of merges in any grouping and order, and `errors` of
 //! `vectors` what must come of a changed digit. `chips` compares images dealt over
-//! chips, by way of the program `deals`. `examples` holds the files of the examples
-//! folder to the second reading.
+//! chips, by way of the program `deals`, and `symbolic` texts behind symbol blocks and
+//! patch sheets, by way of the program `symbolic`. `examples` holds the files of the
+//! examples folder to the second reading.
 
 pub mod answers;
 pub mod chips;
@@ -22,6 +23,7 @@ pub mod overlay;
 pub mod parts;
 pub mod properties;
 pub mod settings;
+pub mod symbolic;
 pub mod writes;
 
 mod content;

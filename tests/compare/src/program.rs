@@ -63,6 +63,16 @@ impl Case for second::deals::Case {
     }
 }
 
+impl Case for second::symbolic::Case {
+    fn script(&self) -> Vec<u8> {
+        self.script()
+    }
+
+    fn answer(&self) -> Vec<u8> {
+        self.answer()
+    }
+}
+
 /// A program of target/bin, unless the variable names another.
 #[derive(Clone, Copy)]
 pub struct Program {
@@ -88,6 +98,11 @@ pub const PATCHES: Program = Program {
 pub const DEALS: Program = Program {
     name: "deals",
     variable: "DEALS",
+};
+
+pub const SYMBOLIC: Program = Program {
+    name: "symbolic",
+    variable: "SYMBOLIC",
 };
 
 /// The cases of one run of a program.

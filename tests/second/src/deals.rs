@@ -71,7 +71,7 @@ fn parse_command(line: &str) -> Option<Command> {
 }
 
 /// A number of just eight digits.
-fn number(digits: &str) -> Option<u32> {
+pub(crate) fn number(digits: &str) -> Option<u32> {
     match numbers(digits, 8)?[..] {
         [number] => Some(number),
         _ => None,

@@ -9,8 +9,8 @@
 //! by `expressions`. `cases` draws texts, windows, images and sheets that reach every
 //! row of the refusal table, from the numbers of `random`. `script` has cases and
 //! answers in the form of the program `vectors`, `calls` in that of the program
-//! `calls`, `patches` in that of the program `patches`, and `deals` in that of the
-//! program `deals`.
+//! `calls`, `patches` in that of the program `patches`, `deals` in that of the program
+//! `deals`, and `symbolic` in that of the program `symbolic`.
 
 pub mod calls;
 pub mod cases;
@@ -26,5 +26,6 @@ pub mod random;
 pub mod reading;
 pub mod script;
 pub mod sheets;
+pub mod symbolic;
 pub mod symbols;
 pub mod tape;
