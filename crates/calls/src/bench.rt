@@ -1,5 +1,4 @@
 // A load as the words of a case go on with it, and the calls.
-use libc::STDOUT_FILENO;
 use session::Session;
 ghost use Rattle.calls.specs.Rooms.{Room};
 
@@ -17,13 +16,6 @@ pub struct Bench {
     pub at: usize,
 }
 
-// A word, and bytes in capital digits behind it.
-fn print_bytes(word: &[u8], bytes: &[u8]) {
-    io::write_all(STDOUT_FILENO, word);
-    printing::print_pairs(bytes);
-    io::write_all(STDOUT_FILENO, b"\n");
-}
-
 // The state, and all that is lent.
 pub fn print_bench(bench: Bench, memory: &[u8], marks: &[u8])
     requires { ⌜ Room (now memory) (now marks) ⌝ }
@@ -32,8 +24,8 @@ pub fn print_bench(bench: Bench, memory: &[u8], marks: &[u8])
     let cells = marks::smaller(bench.cells, ROOM);
     let lent = marks::smaller(bench.marks, ROOM);
     crate::state::print_state(session);
-    print_bytes(b"memory ", &memory[..cells]);
-    print_bytes(b"marks ", &marks[..lent]);
+    printing::print_bytes(b"memory ", &memory[..cells]);
+    printing::print_bytes(b"marks ", &marks[..lent]);
 }
 
 // Begins a load in the window that is lent, in the form of the one before.

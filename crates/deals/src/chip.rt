@@ -38,26 +38,13 @@ pub fn left(chip: Chip, memory: [u8; ROOM], marks: [u8; ROOM]) -> Chip {
     }
 }
 
-// Stores the bytes of pairs of digits, as many as there is room for: how many.
-fn bytes_in(table: &[u32; 256], digits: &[u8], bytes: &mut [u8]) -> usize
-    requires { ⌜ now table ≡ digitTable ⌝ }
-{
-    let n = marks::smaller(digits.len() / 2, bytes.len());
-    let mut i: usize = 0;
-    while i < n {
-        bytes[i] = hex_read::byte_of(table, digits[2 * i], digits[2 * i + 1]);
-        i += 1;
-    }
-    n
-}
-
 // The chip with the memory that digits give.
 pub fn with_memory(table: &[u32; 256], chip: Chip, digits: &[u8]) -> Chip
     requires { ⌜ now table ≡ digitTable ⌝ }
 {
     let mut next = chip;
     let mut memory = chip.memory;
-    next.cells = bytes_in(table, digits, &mut memory);
+    next.cells = printing::bytes_in(table, digits, &mut memory);
     next.memory = memory;
     next
 }
@@ -68,7 +55,7 @@ pub fn with_marks(table: &[u32; 256], chip: Chip, digits: &[u8]) -> Chip
 {
     let mut next = chip;
     let mut marks = chip.marks;
-    next.marked = bytes_in(table, digits, &mut marks);
+    next.marked = printing::bytes_in(table, digits, &mut marks);
     next.marks = marks;
     next
 }

@@ -32,20 +32,14 @@ struct Case {
     chip3: Chip,
 }
 
-fn print_bytes(word: &[u8], bytes: &[u8]) {
-    io::write_all(STDOUT_FILENO, word);
-    printing::print_pairs(bytes);
-    io::write_all(STDOUT_FILENO, b"\n");
-}
-
 // The buffers of a chip, each on a line that begins with the word.
 fn print_chip(word: &[u8], chip: Chip) {
     let memory = chip.memory;
     let marks = chip.marks;
     io::write_all(STDOUT_FILENO, word);
-    print_bytes(b"memory ", chip::first(&memory, chip.cells));
+    printing::print_bytes(b"memory ", chip::first(&memory, chip.cells));
     io::write_all(STDOUT_FILENO, word);
-    print_bytes(b"marks ", chip::first(&marks, chip.marked));
+    printing::print_bytes(b"marks ", chip::first(&marks, chip.marked));
 }
 
 // The buffers of every chip of a case.

@@ -48,19 +48,6 @@ pub fn entry_of(image: Image) -> Entry {
     Entry::Absent
 }
 
-// Stores the bytes of pairs of digits, as many as there is room for: how many.
-fn bytes_in(table: &[u32; 256], digits: &[u8], bytes: &mut [u8]) -> usize
-    requires { ⌜ now table ≡ digitTable ⌝ }
-{
-    let n = marks::smaller(digits.len() / 2, bytes.len());
-    let mut i: usize = 0;
-    while i < n {
-        bytes[i] = hex_read::byte_of(table, digits[2 * i], digits[2 * i + 1]);
-        i += 1;
-    }
-    n
-}
-
 // The address that eight digits give; 0 for fewer.
 pub fn address_in(table: &[u32; 256], digits: &[u8]) -> u32
     requires { ⌜ now table ≡ digitTable ⌝ }
@@ -81,15 +68,15 @@ pub fn set(table: &[u32; 256], image: Image, letter: u8, digits: &[u8]) -> Image
     let mut header = image.header;
     match letter {
         b'm' => {
-            next.cells = bytes_in(table, digits, &mut memory);
+            next.cells = printing::bytes_in(table, digits, &mut memory);
             next.memory = memory;
         }
         b'k' => {
-            next.marked = bytes_in(table, digits, &mut marks);
+            next.marked = printing::bytes_in(table, digits, &mut marks);
             next.marks = marks;
         }
         b'h' => {
-            next.len = bytes_in(table, digits, &mut header);
+            next.len = printing::bytes_in(table, digits, &mut header);
             next.header = header;
         }
         _ => {

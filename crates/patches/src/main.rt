@@ -94,12 +94,6 @@ fn look_all(table: &[u32; 256], form: Form, base: u32, under: Image, over: Image
     }
 }
 
-fn print_bytes(word: &[u8], bytes: &[u8]) {
-    io::write_all(STDOUT_FILENO, word);
-    printing::print_pairs(bytes);
-    io::write_all(STDOUT_FILENO, b"\n");
-}
-
 fn print_merged(merged: Merged) {
     io::write_all(STDOUT_FILENO, b"merge ");
     let refusal = merged.refusal;
@@ -160,8 +154,8 @@ fn merge_lent(
         over_entry,
     );
     print_merged(merged);
-    print_bytes(b"memory ", memory);
-    print_bytes(b"marks ", marks);
+    printing::print_bytes(b"memory ", memory);
+    printing::print_bytes(b"marks ", marks);
     merged
 }
 
@@ -207,7 +201,7 @@ fn print_write(letter: u8, form: Form, at: u32, base: Image, out: &mut [u8]) {
     io::write_all(STDOUT_FILENO, b" length ");
     io::print_decimal(STDOUT_FILENO, written.length as u64);
     io::write_all(STDOUT_FILENO, b"\n");
-    print_bytes(b"output ", out);
+    printing::print_bytes(b"output ", out);
 }
 
 // Writes an image by a letter, to an output of so many bytes.

@@ -1,4 +1,4 @@
-// What the programs over cases share: where a piece of their input ends, and how they print an answer.
+// What the programs over cases share: where a piece of their input ends, which bytes its digits give, and how they print an answer.
 use libc::STDOUT_FILENO;
 use window::Entry;
 use window::Loaded;
@@ -6,6 +6,7 @@ use window::Refusal;
 ghost use mathlib.Core.Path.{_≡_};
 ghost use Prim.Native.Nat.{_≤_};
 ghost use lib.ListN.{length};
+ghost use Rattle.hex.specs.Tables.{digitTable};
 ghost use Rattle.printing.specs.Cases.{before};
 
 // A line has at most so many bytes.
@@ -23,6 +24,28 @@ pub fn count_before(stop: u8, chars: &[u8]) -> usize
         i += 1;
     }
     i
+}
+
+// Stores the bytes of pairs of digits, as many as there is room for: how many. Spaces and line ends before a pair are passed over.
+pub fn bytes_in(table: &[u32; 256], digits: &[u8], bytes: &mut [u8]) -> usize
+    requires { ⌜ now table ≡ digitTable ⌝ }
+    ensures { λ r. ⌜ r ≤ length (now (bytes .exit)) ⌝ }
+{
+    let mut n: usize = 0;
+    let mut i: usize = 0;
+    while i + 1 < digits.len() {
+        if n == bytes.len() {
+            return n;
+        }
+        if digits[i] <= b' ' {
+            i += 1;
+            continue;
+        }
+        bytes[n] = hex_read::byte_of(table, digits[i], digits[i + 1]);
+        n += 1;
+        i += 2;
+    }
+    n
 }
 
 // How many bytes of a header there are up to the last that is not zero.
@@ -46,6 +69,13 @@ pub fn print_pairs(bytes: &[u8]) {
     hex_write::put_pairs(&mut digits, 0, &bytes[..n]);
     let end = 2 * n;
     io::write_all(STDOUT_FILENO, &digits[..end]);
+}
+
+// A word, and bytes behind it, on a line.
+pub fn print_bytes(word: &[u8], bytes: &[u8]) {
+    io::write_all(STDOUT_FILENO, word);
+    print_pairs(bytes);
+    io::write_all(STDOUT_FILENO, b"\n");
 }
 
 fn print_byte(byte: u8) {

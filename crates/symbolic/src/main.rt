@@ -17,34 +17,6 @@ ghost use Rattle.hex.specs.Tables.{digitTable};
 // A memory or marks have at most so many bytes: a line has no more.
 const ROOM: usize = 1024;
 
-// Stores the bytes of pairs of digits, as many as there is room for: how many. Spaces and line ends before a pair are passed over.
-fn bytes_in(table: &[u32; 256], digits: &[u8], bytes: &mut [u8]) -> usize
-    requires { ⌜ now table ≡ digitTable ⌝ }
-    ensures { λ r. ⌜ r ≤ length (now (bytes .exit)) ⌝ }
-{
-    let mut n: usize = 0;
-    let mut i: usize = 0;
-    while i + 1 < digits.len() {
-        if n == bytes.len() {
-            return n;
-        }
-        if digits[i] <= b' ' {
-            i += 1;
-            continue;
-        }
-        bytes[n] = hex_read::byte_of(table, digits[i], digits[i + 1]);
-        n += 1;
-        i += 2;
-    }
-    n
-}
-
-fn print_bytes(word: &[u8], bytes: &[u8]) {
-    io::write_all(STDOUT_FILENO, word);
-    printing::print_pairs(bytes);
-    io::write_all(STDOUT_FILENO, b"\n");
-}
-
 // Loads the text of a case, or the sheet behind it.
 fn load_case(
     table: &[u32; 256],
@@ -61,7 +33,7 @@ fn load_case(
     }
     let from = cut + 1;
     let mut sheet = io::large_buffer();
-    let n = bytes_in(table, &text[from..], &mut sheet);
+    let n = printing::bytes_in(table, &text[from..], &mut sheet);
     sheet_load::load_sheet(&text[..cut], &sheet[..n], base, memory, marks)
 }
 
@@ -73,8 +45,8 @@ fn run_load(table: &[u32; 256], text: &[u8], base: u32, memory: &mut [u8], marks
     mark_bytes::fill(marks, 0xFF);
     let loaded = load_case(table, text, base, memory, marks);
     printing::print_answer(loaded);
-    print_bytes(b"memory ", memory);
-    print_bytes(b"marks ", marks);
+    printing::print_bytes(b"memory ", memory);
+    printing::print_bytes(b"marks ", marks);
 }
 
 // Runs a text in the window that its heading gives.
