@@ -3,7 +3,8 @@
 
 use crate::cases::{tapes, Drawing, RECORDS};
 use crate::form::Form;
-use crate::reading::{Loaded, Refusal};
+use crate::reading::{Loaded, Loader, Refusal};
+use crate::symbols::load_behind;
 use crate::tape::Edition;
 
 /// The room that `vectors` has for its input, a window and a canonical text.
@@ -13,11 +14,14 @@ pub const ROOM: usize = 65_536;
 #[derive(Clone, Copy, Debug, PartialEq, Eq)]
 pub enum Format {
     Srec,
+    /// S-records behind a symbol block.
+    Behind,
     Tape(Edition),
 }
 
-const FORMATS: [Format; 3] = [
+const FORMATS: [Format; 4] = [
     Format::Srec,
+    Format::Behind,
     Format::Tape(Edition::Repeat),
     Format::Tape(Edition::Sum),
 ];
@@ -27,15 +31,24 @@ impl Format {
     fn sign(self) -> char {
         match self {
             Format::Srec => ' ',
+            Format::Behind => '$',
             Format::Tape(Edition::Repeat) => ';',
             Format::Tape(Edition::Sum) => '+',
+        }
+    }
+
+    /// The loader; behind a block it is not that of the format's drawn cases.
+    fn loader(self) -> Loader {
+        match self {
+            Format::Behind => load_behind,
+            _ => self.calls().load,
         }
     }
 
     /// The loader and the writer.
     pub fn calls(self) -> &'static Drawing {
         match self {
-            Format::Srec => &RECORDS,
+            Format::Srec | Format::Behind => &RECORDS,
             Format::Tape(edition) => tapes::of(edition),
         }
     }
@@ -105,7 +118,7 @@ impl Case {
     /// The answer of the load, and memory and marks behind it.
     pub fn load(&self) -> (Loaded, Vec<u8>, Vec<u8>) {
         let (mut memory, mut marks) = (vec![0; self.cells], self.old_marks());
-        let (text, loader) = (&self.text, self.format.calls().load);
+        let (text, loader) = (&self.text, self.format.loader());
         let form = self.form;
         let loaded = form.load(loader, text, self.base, &mut memory, &mut marks);
         (loaded, memory, marks)

@@ -82,7 +82,7 @@ pub fn any_write(random: &mut Random, bench: &Bench) -> Vec<Command> {
 fn fit_title(random: &mut Random, format: Format, title: &mut Title) {
     let entry = random.pick(&[0, 0xFFFF, 0x1_0000, 0xFFFF_FFFF]);
     match format {
-        Format::Srec => title.entry = title.entry.or(Some(entry)),
+        Format::Srec | Format::Behind => title.entry = title.entry.or(Some(entry)),
         Format::Tape(_) => *title = Title::default(),
     }
 }
