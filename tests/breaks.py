@@ -13,13 +13,15 @@ test of the cases of crates/patches. An edit of kind 'packed' breaks it in packe
 of one of the three programs, and so must the oracle's own tests, and its tests of the cases of one of the three. An edit of
 kind 'errors' breaks it in how it takes single errors; there it stands in for the program vectors, and tests/compare must
 notice. An edit of kind 'chips' breaks it in images over chips; tests/compare must notice that by way of the program deals,
-and so must the oracle's own tests, and its test of the cases of crates/deals. An edit of kind 'calls' breaks the crates
-themselves; the program calls is compiled with it, without a proof, and the cases of crates/calls must notice. An edit of kind
-'patches' does so with the program patches; the cases of crates/patches must notice, and so must the first cases that
-tests/compare draws, by the oracle's answers: `rt try` leaves no program that tests/compare itself could run. An edit names a
-file and replaces text that stands there exactly once, or several such texts in turn. With no edit nothing may be noticed.
-SREC_LIB_DIR, VECTORS, CALLS, PATCHES and DEALS name another folder of the archive and other programs. One line an edit; the
-last line is 'N passed, M failed'."""
+and so must the oracle's own tests, and its test of the cases of crates/deals. An edit of kind 'symbols' breaks it in symbol
+blocks, address expressions and patch sheets; tests/compare must notice that by way of the program symbolic, and so must the
+oracle's own tests, and its test of the cases of crates/symbolic. An edit of kind 'calls' breaks the crates themselves; the
+program calls is compiled with it, without a proof, and the cases of crates/calls must notice. An edit of kind 'patches' does
+so with the program patches; the cases of crates/patches must notice, and so must the first cases that tests/compare draws, by
+the oracle's answers: `rt try` leaves no program that tests/compare itself could run. An edit names a file and replaces text
+that stands there exactly once, or several such texts in turn. With no edit nothing may be noticed. SREC_LIB_DIR, VECTORS,
+CALLS, PATCHES, DEALS and SYMBOLIC name another folder of the archive and other programs. One line an edit; the last line is
+'N passed, M failed'."""
 
 import functools
 import json
@@ -36,7 +38,7 @@ BREAKS = TESTS / "breaks"
 TARGET = TESTS.parent / "target"
 READING = TESTS / "second" / "src"
 # what tests/compare takes if nothing else is named
-PROGRAMS = ("VECTORS", "CALLS", "PATCHES", "DEALS")
+PROGRAMS = ("VECTORS", "CALLS", "PATCHES", "DEALS", "SYMBOLIC")
 BUILT = {name: TARGET / "bin" / name.lower() for name in PROGRAMS} | {"SREC_LIB_DIR": TARGET / "staticlib"}
 SOURCES = [READING / "reading.rs", READING / "tape.rs", BREAKS / "library" / "face.rs", TESTS.parent / "include" / "srec.h"]
 # fewer than in the usual runs: what is wrong is noticed soon
@@ -177,6 +179,12 @@ def chips(edit, folder):
     return second(edit, folder, ("compare", "chips"), ("second", "chips"), ("second", "deals"))
 
 
+def symbols(edit, folder):
+    """Symbol blocks and patch sheets, by the program symbolic, by the oracle's tests and by the cases of crates/symbolic."""
+    copy_cases(folder, "symbolic")
+    return second(edit, folder, ("compare", "symbolic"), ("second", "sheets"), ("second", "symbolic"))
+
+
 def edited(edit, folder):
     """Copies the crates, edited."""
     shutil.copy(TESTS.parent / "crates.txt", folder)
@@ -244,7 +252,7 @@ def try_edit(kind, edit):
 def main():
     names = sys.argv[1:]
     results = []
-    for kind in (library, answers, parts, overlay, packed, errors, chips, calls, patches):
+    for kind in (library, answers, parts, overlay, packed, errors, chips, symbols, calls, patches):
         edits = [None, *sorted((BREAKS / kind.__name__).glob("*.edit"))]
         whole = not names or kind.__name__ in names
         results += [try_edit(kind, edit) for edit in edits if whole or edit and edit.stem in names]
