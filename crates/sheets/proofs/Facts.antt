@@ -3,16 +3,15 @@ use mathlib.Core.Path.{_≡_, refl, sym, ap, _∙_}
 use mathlib.Core.Logic.{_↔_}
 use Prim.Native.Nat.{ℕ, suc, _+_}
 use native.Mathlib.Omega.{arith}
-use mathlib.Core.Bool.{false}
 use mathlib.Core.List.{List, [], _∷_}
 use lib.Dec.{eqb}
 use lib.ListN.{length}
 use Rattle.lists.proofs.TestLaws.{by-test}
 use Rattle.window.specs.declared.Refusal.{Refusal}
-use Rattle.window.specs.Windows.{Window, Marked, row1}
+use Rattle.window.specs.Windows.{Window, row1}
 use Rattle.window.specs.Images.{Image, blank}
 use Rattle.window.specs.Cells.{Run, cells, Addressed, total}
-use Rattle.window.specs.Plans.{refusal, Summary, Plan, Outcome, placed}
+use Rattle.window.specs.Plans.{Summary, Plan, placed}
 use Rattle.window.specs.Plans.Plan.{stop, done}
 use Rattle.window.specs.Plans.Outcome.{refused, accepted}
 use Rattle.window.proofs.CellLaws.{In}
@@ -28,16 +27,18 @@ use Rattle.symbols.specs.declared.Block.the-variants.{Bad, Table}
 use Rattle.symbols.specs.Blocks.{blockOf}
 use Rattle.sheet_fields.specs.Fields.{Field, fields, isField}
 use Rattle.sheets.specs.Sheets.{summary, pairPlan, planned, sheetPlan, tableOutcome, withBlock, sheetOutcome}
-use Rattle.sheets.specs.Facts.{said, symbolsOf, sheetData, Sheet-loads, Sheet-is-loaded}
+use Rattle.sheets.specs.Facts.{said, symbolsOf, Sheet-is-loaded}
 
 -- a plan that ends well stores these runs, and has this summary
 record Ends (p : Plan) (s : Summary) (rs : List Run) (sum : Summary) : Type 0 where
   pub runs : stores p ≡ rs
   pub sums : s ≡ sum
 
+-- a plan that stops does not end well
 no-stop : (f : Refusal) (s : Summary) → stop f ≡ done s → ⊥
 no-stop f s e = let z : _≡_ {A = ℕ} 0 1 = cc in omega arith
 
+-- a refused outcome is no accepted one
 no-refusal : (f : Refusal) (s : Summary) (img : Image) → refused f ≡ accepted s img → ⊥
 no-refusal f s img e = let z : _≡_ {A = ℕ} 0 1 = cc in omega arith
 
