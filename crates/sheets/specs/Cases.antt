@@ -80,3 +80,16 @@ allHold (c ∷ cs) = same (shown (sheetOutcome window text (c .sheet))) (c .give
 pub cases-hold : T (allHold cases)
 unfolding allHold
 cases-hold = tt
+
+-- row 1 comes first, then the block's rows, then the sheet's: here all apply, then all but row 1, then all but the block's
+abbrev pub orders : Bool
+orders =
+    let short : Window = windowOf 4092 (replicate {A = ℕ} 8 9) [] in
+    let cut : List ℕ = codes "$$ M" in
+    let odd : List ℕ = 1 ∷ [] in
+    same (shown (sheetOutcome short cut odd)) (1 ∷ 0 ∷ 0 ∷ []) && same (shown (sheetOutcome window cut odd)) (22 ∷ 1 ∷ 4 ∷ [])
+    && same (shown (sheetOutcome short text odd)) (1 ∷ 0 ∷ 0 ∷ [])
+
+pub orders-hold : T orders
+unfolding digits.between digits.isHex digits.value row1 isLetter isAlnum isBlank isBreak counted allOf numberIn isName isNumber symbolsIn tight partsOf isLast isTitle isPair row22 symbolCount row23 row24 lineRow blockOf lengthAt endAt fieldAt fields isField pairPlan sheetPlan tableOutcome sheetOutcome
+orders-hold = tt

@@ -1,7 +1,7 @@
 -- Worked examples of symbol blocks, as one table under one statement.
 use mathlib.Core.Bool.{Bool, true, false, not, _&&_}
 use mathlib.Core.Option.{Option, none, some}
-use mathlib.Core.List.{List, [], _∷_}
+use mathlib.Core.List.{List, [], _∷_, _++_}
 use Prim.Native.Nat.{ℕ}
 use Prim.Native.String.{String}
 use lib.Dec.{T, eqb}
@@ -72,17 +72,31 @@ pub cases-hold : T (allHold cases)
 unfolding allHold
 cases-hold = tt
 
--- a table, a name, and what it stands for; the last symbol of a block; and the most
+-- a table, a name, and what it stands for
 abbrev pub meanings : Bool
 meanings =
     let table : List ℕ = codes "a $fF b $0000010A" in
     means (meaning (symbolsIn table) (codes "a")) 255 && means (meaning (symbolsIn table) (codes "b")) 266
-    && not (isSome (meaning (symbolsIn table) (codes "A"))) && not (row24 1023 (codes "a $1")) && row24 1024 (codes "a $1") && row24 1021 (codes "a $1 b $2 c $3 d $4")
+    && not (isSome (meaning (symbolsIn table) (codes "A")))
   where
     means : Option ℕ → ℕ → Bool
     means none n = false
     means (some v) n = eqb v n
 
 pub meanings-hold : T meanings
-unfolding between isHex value isLetter isAlnum isBlank isBreak counted allOf numberIn isName isNumber symbolsIn tight partsOf isPair row22 symbolCount row24
+unfolding between isHex value isLetter isAlnum isBlank isBreak counted allOf numberIn isName isNumber symbolsIn
 meanings-hold = tt
+
+-- the row of a line behind the symbol `a`, where there were n symbols before it
+abbrev rowWith : ℕ → String → ℕ
+rowWith n line = lineRow (codes "$$ M\na $1\n" ++ codes line) 4 n (record { place = 10; chars = codes line })
+
+-- row 22 of the whole line comes first, then 23 anywhere in it, then 24
+abbrev pub orders : Bool
+orders =
+    eqb (rowWith 1 "a $1 b") 22 && eqb (rowWith 1024 "a $1 b") 22 && eqb (rowWith 1024 "a $1") 23 && eqb (rowWith 1024 "b $1 a $2") 23
+    && eqb (rowWith 1024 "b $1") 24 && eqb (rowWith 1021 "b $1 c $2 d $3 e $4") 24 && eqb (rowWith 1023 "b $1") 0
+
+pub orders-hold : T orders
+unfolding between isHex value isLetter isAlnum isBlank counted allOf numberIn isName isNumber symbolsIn tight partsOf isPair row22 symbolCount row23 row24 lineRow
+orders-hold = tt
