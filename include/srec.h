@@ -1,17 +1,17 @@
 /* srec.h: Motorola S-records and MOS Technology paper tapes into lent memory, and an image back as one canonical S-record
- * text or one canonical tape.
+ * text or one canonical tape; patches over a base, images over chips, and patch sheets by symbol names.
  *
- * Link with libcapi.a (`rt staticlib capi` writes target/staticlib/libcapi.a). No heap, no global state, nothing is printed.
+ * Link with libsrec.a (`make` writes target/libsrec.a). C99 or later, or C++. No heap, no global state, nothing is printed.
  *
  * A window is a base address and two buffers of one length: memory[i] is the cell at address base + i, and marks[i] is
  * 1 if that cell was addressed by the text, else 0.
  *
  * Every pointer is to a buffer of the length that follows it. A buffer of length 0 may have any pointer, NULL too: it is
- * not read. memory, marks and out must not overlap each other or any other buffer of the same call.
+ * not read. Buffers that a call changes must not overlap each other or any other buffer of the same call. There is no other
+ * precondition: every function ends and does nothing undefined, whatever buffers and numbers hold.
  *
  * A load or a write is refused by the first row of docs/FORMAT.md that applies; srec_reason below has the words of each.
- * What else a load finds, the header, the entry, the two counts, and of a refusal the record, the place and the right
- * checksum, is not returned.
+ * A refused load leaves memory unchanged and every mark 0; a refused write leaves out unchanged.
  *
  * Example: how many cells of a 32 KiB ROM at address 8000 hex the text on standard input fills.
  *
@@ -22,15 +22,14 @@
  *
  *     int main(void)
  *     {
- *         size_t length = fread(text, 1, sizeof text, stdin), cells = 0;
- *         uint32_t row = srec_load(text, length, 0x8000, rom, sizeof rom, marks, sizeof marks);
- *         if (row != 0) {
- *             printf("row %u: %s\n", (unsigned)row, srec_reason(row));
+ *         size_t length = fread(text, 1, sizeof text, stdin);
+ *         struct srec_loaded got =
+ *             srec_load_as(SREC_RECORDS, text, length, 0x8000, rom, sizeof rom, marks, sizeof marks);
+ *         if (got.reason != 0) {
+ *             printf("record %zu at %zu: %s\n", got.record, got.place, srec_reason(got.reason));
  *             return 1;
  *         }
- *         for (size_t i = 0; i < sizeof marks; i++)
- *             cells += marks[i];
- *         printf("%zu of %zu cells\n", cells, sizeof rom);
+ *         printf("%zu of %zu cells\n", got.cells, sizeof rom);
  *         return 0;
  *     }
  */
@@ -40,9 +39,123 @@
 #include <stddef.h>
 #include <stdint.h>
 
+#define SREC_VERSION "1.0"
+
 #ifdef __cplusplus
 extern "C" {
 #endif
+
+/* ---- the whole answer */
+
+/* The formats. Any other number is taken for SREC_TAPE_SUM. */
+enum {
+    SREC_RECORDS = 0,     /* Motorola S-records */
+    SREC_TAPE_REPEAT = 1, /* a paper tape whose last line has its number again for a check */
+    SREC_TAPE_SUM = 2     /* a paper tape whose last line has the sum of its bytes, as the KIM-1 manual asks for */
+};
+
+/* The answer of a load, and of a merge, a deal and a collect, which leave what they do not speak of 0. */
+struct srec_loaded {
+    uint32_t reason;     /* the row that refuses, 0 for accepted */
+    uint32_t want;       /* row 7 of S-records: the checksum that would be right; otherwise 0 */
+    size_t record;       /* of a refusal: the record, from 1; 0 for row 1; how many were read for row 14 */
+    size_t place;        /* of a refusal: the index of a character of the text */
+    size_t records;      /* data records; 0 after a refusal */
+    size_t cells;        /* cells loaded; 0 after a refusal */
+    uint32_t has_entry;  /* 1 if there is an entry, else 0 */
+    uint32_t entry;      /* the entry, 0 if there is none */
+    size_t header_len;   /* how many bytes the header has, at most 252 */
+    uint8_t header[252]; /* the header; 0 behind its length */
+};
+
+/* The answer of a write. */
+struct srec_written {
+    uint32_t reason; /* the row that refuses, 0 for accepted */
+    size_t place;    /* row 16, and row 11 of a tape: the index of the mark; row 17: the length needed; otherwise 0 */
+    size_t length;   /* of the text; 0 after a refusal */
+};
+
+/* The addresses that data records address. */
+struct srec_span {
+    uint32_t any;     /* 1 if they address a cell, else 0, and then both are 0 */
+    uint64_t lowest;  /* the lowest address */
+    uint64_t highest; /* the highest; above FFFFFFFF only in a patch sheet, and then no window covers it */
+};
+
+/* A record that addresses a cell. */
+struct srec_origin {
+    size_t record; /* its number, from 1; 0 for none, and then all are 0 */
+    size_t place;  /* the index of its first character */
+    uint32_t byte; /* the byte that it gives the cell */
+};
+
+/* Loads a text of a format into a window, as srec_load does. */
+struct srec_loaded srec_load_as(uint32_t format, const uint8_t *text, size_t text_len, uint32_t base, uint8_t *memory,
+                                size_t memory_len, uint8_t *marks, size_t marks_len);
+
+/* Writes the canonical text of a window in a format at the start of out, as srec_write does. S-records are refused by 1, 15,
+ * 16, 18 or 17, a tape by 1, 16, 19, 11 or 17, tried in this order. has_entry is 0 for no entry. */
+struct srec_written srec_write_as(uint32_t format, uint32_t base, const uint8_t *memory, size_t memory_len,
+                                  const uint8_t *marks, size_t marks_len, const uint8_t *header, size_t header_len,
+                                  uint32_t has_entry, uint32_t entry, uint8_t *out, size_t out_len);
+
+/* What srec_write_as would answer if the output were just long enough: the length that the canonical text needs, or the
+ * row that refuses the write. */
+struct srec_written srec_room(uint32_t format, uint32_t base, const uint8_t *memory, size_t memory_len,
+                              const uint8_t *marks, size_t marks_len, const uint8_t *header, size_t header_len,
+                              uint32_t has_entry, uint32_t entry);
+
+/* The lowest and the highest address that the data records of a text address, up to the first record that a row other than
+ * 12 and 13 refuses. In an allowed window that covers them row 12 is never given. */
+struct srec_span srec_span(uint32_t format, const uint8_t *text, size_t text_len);
+
+/* The first record of a text, up to the first that a row other than 12 and 13 refuses, that addresses a cell. */
+struct srec_origin srec_where(uint32_t format, const uint8_t *text, size_t text_len, uint32_t address);
+
+/* ---- patches, chips, symbols */
+
+/* Lays a patch into a base, both windows from the same base address and of one length: marked cells of the patch win, all
+ * other bytes and marks stay, and so do header and entry unless the patch has its own. The answer has the merged header
+ * and entry, or the row 1, 15 or 16, with the index of the bad mark as its place. */
+struct srec_loaded srec_merge(uint32_t base, uint8_t *memory, size_t memory_len, uint8_t *marks, size_t marks_len,
+                              const uint8_t *header, size_t header_len, uint32_t has_entry, uint32_t entry,
+                              const uint8_t *patch_memory, size_t patch_memory_len, const uint8_t *patch_marks,
+                              size_t patch_marks_len, const uint8_t *patch_header, size_t patch_header_len,
+                              uint32_t patch_has_entry, uint32_t patch_entry);
+
+/* Deals a window over 2 or 4 chips: the cell at address A goes to chip A modulo chips, at A / chips. Each chip's buffers
+ * have memory_len / chips bytes; those of the chips that there are not have length 0. Refused by 21, 1 or 16. */
+struct srec_loaded srec_deal(size_t chips, uint32_t base, const uint8_t *memory, size_t memory_len,
+                             const uint8_t *marks, size_t marks_len, uint8_t *memory0, size_t memory0_len,
+                             uint8_t *marks0, size_t marks0_len, uint8_t *memory1, size_t memory1_len, uint8_t *marks1,
+                             size_t marks1_len, uint8_t *memory2, size_t memory2_len, uint8_t *marks2,
+                             size_t marks2_len, uint8_t *memory3, size_t memory3_len, uint8_t *marks3,
+                             size_t marks3_len);
+
+/* Collects 2 or 4 chips into a window. Refused by 21, 1 or 16. */
+struct srec_loaded srec_collect(size_t chips, uint32_t base, uint8_t *memory, size_t memory_len, uint8_t *marks,
+                                size_t marks_len, const uint8_t *memory0, size_t memory0_len, const uint8_t *marks0,
+                                size_t marks0_len, const uint8_t *memory1, size_t memory1_len, const uint8_t *marks1,
+                                size_t marks1_len, const uint8_t *memory2, size_t memory2_len, const uint8_t *marks2,
+                                size_t marks2_len, const uint8_t *memory3, size_t memory3_len, const uint8_t *marks3,
+                                size_t marks3_len);
+
+/* Loads the S-records that stand behind the symbol block at a text's start. Rows 22 to 24 are those of the block; record and
+ * place of the others count from behind the block's last line. */
+struct srec_loaded srec_load_behind(const uint8_t *text, size_t text_len, uint32_t base, uint8_t *memory,
+                                    size_t memory_len, uint8_t *marks, size_t marks_len);
+
+/* Loads a patch sheet, with the symbols of the block at a text's start, as an image that srec_merge can lay over a base.
+ * Rows 22 to 24 are those of the block, with lines and places of the text; 25 to 27, 12 and 13 those of the sheet, with
+ * fields and places of the sheet. */
+struct srec_loaded srec_load_sheet(const uint8_t *text, size_t text_len, const uint8_t *sheet, size_t sheet_len,
+                                   uint32_t base, uint8_t *memory, size_t memory_len, uint8_t *marks,
+                                   size_t marks_len);
+
+/* As srec_span, for the bytes of a patch sheet, up to the first field that one of rows 22 to 27 refuses. */
+struct srec_span srec_span_sheet(const uint8_t *text, size_t text_len, const uint8_t *sheet, size_t sheet_len);
+
+/* ---- the row alone */
 
 /* Loads a text into a window. Returns 0 if the text is accepted, else the number of the row (1 to 14, never 9) that refuses it.
  *
@@ -101,7 +214,7 @@ uint32_t srec_load_tape(uint32_t edition, const uint8_t *text, size_t text_len, 
 size_t srec_write_tape(uint32_t edition, uint32_t base, const uint8_t *memory, size_t memory_len, const uint8_t *marks,
                        size_t marks_len, uint8_t *out, size_t out_len);
 
-/* The words for a row, or for 0; NULL for a number that is no row. No function here gives rows 18 to 27. */
+/* The words for a row, or for 0; NULL for a number that is no row. */
 static inline const char *srec_reason(unsigned number)
 {
     static const char *const words[] = {

@@ -1,13 +1,16 @@
-// Dealing and collecting for the benchmark in C. include/srec.h does not declare them.
+// Dealing and collecting for C. include/srec.h declares them.
+use c_answers::Answer;
+use window::Entry;
 ghost use mathlib.Core.Path.{_≡_};
 ghost use Rattle.window.specs.Windows.{windowOf};
 ghost use Rattle.chips.specs.Boards.{buffersOf, boardOf};
-ghost use Rattle.chips.specs.Refusals.{dealRefusal, collectRefusal};
-ghost use Rattle.chips.specs.Calls.{dealtChip, collectedWhole};
+ghost use Rattle.chips.specs.Refusals.{dealRefusal};
+ghost use Rattle.chips.specs.Calls.{dealtChip, collectedWhole, collectAnswer};
+ghost use Rattle.chips_c.specs.Told.{dealtOf, collectedOf};
 
-// Deals a window over k chips: the refusal's number, 0 for accepted.
+// Deals a window over k chips.
 #[no_mangle]
-pub extern "C" fn srec_deal_cells(
+pub extern "C" fn srec_deal(
     k: usize,
     base: u32,
     memory: &[u8],
@@ -20,8 +23,8 @@ pub extern "C" fn srec_deal_cells(
     marks2: &mut [u8],
     memory3: &mut [u8],
     marks3: &mut [u8],
-) -> u32
-    ensures answer { λ r. ⌜ r ≡ dealRefusal k (windowOf base (now (memory .entry)) (now (marks .entry))) (boardOf (now (memory0 .entry)) (now (marks0 .entry)) (now (memory1 .entry)) (now (marks1 .entry)) (now (memory2 .entry)) (now (marks2 .entry)) (now (memory3 .entry)) (now (marks3 .entry))) .reason ⌝ }
+) -> Answer
+    ensures answer { λ r. ⌜ r ≡ dealtOf (dealRefusal k (windowOf base (now (memory .entry)) (now (marks .entry))) (boardOf (now (memory0 .entry)) (now (marks0 .entry)) (now (memory1 .entry)) (now (marks1 .entry)) (now (memory2 .entry)) (now (marks2 .entry)) (now (memory3 .entry)) (now (marks3 .entry)))) ⌝ }
     ensures chip0 { λ _. ⌜ buffersOf (now (memory0 .exit)) (now (marks0 .exit)) ≡ dealtChip k (windowOf base (now (memory .entry)) (now (marks .entry))) (boardOf (now (memory0 .entry)) (now (marks0 .entry)) (now (memory1 .entry)) (now (marks1 .entry)) (now (memory2 .entry)) (now (marks2 .entry)) (now (memory3 .entry)) (now (marks3 .entry))) 0 ⌝ }
     ensures chip1 { λ _. ⌜ buffersOf (now (memory1 .exit)) (now (marks1 .exit)) ≡ dealtChip k (windowOf base (now (memory .entry)) (now (marks .entry))) (boardOf (now (memory0 .entry)) (now (marks0 .entry)) (now (memory1 .entry)) (now (marks1 .entry)) (now (memory2 .entry)) (now (marks2 .entry)) (now (memory3 .entry)) (now (marks3 .entry))) 1 ⌝ }
     ensures chip2 { λ _. ⌜ buffersOf (now (memory2 .exit)) (now (marks2 .exit)) ≡ dealtChip k (windowOf base (now (memory .entry)) (now (marks .entry))) (boardOf (now (memory0 .entry)) (now (marks0 .entry)) (now (memory1 .entry)) (now (marks1 .entry)) (now (memory2 .entry)) (now (marks2 .entry)) (now (memory3 .entry)) (now (marks3 .entry))) 2 ⌝ }
@@ -41,12 +44,12 @@ pub extern "C" fn srec_deal_cells(
         memory3,
         marks3,
     );
-    refusal.reason
+    c_answers::bare_answer(refusal, window::no_header(), Entry::Absent)
 }
 
-// Collects k chips into a window: the refusal's number, 0 for accepted.
+// Collects k chips into a window.
 #[no_mangle]
-pub extern "C" fn srec_collect_cells(
+pub extern "C" fn srec_collect(
     k: usize,
     base: u32,
     memory: &mut [u8],
@@ -59,8 +62,8 @@ pub extern "C" fn srec_collect_cells(
     marks2: &[u8],
     memory3: &[u8],
     marks3: &[u8],
-) -> u32
-    ensures answer { λ r. ⌜ r ≡ collectRefusal k (windowOf base (now (memory .entry)) (now (marks .entry))) (boardOf (now (memory0 .entry)) (now (marks0 .entry)) (now (memory1 .entry)) (now (marks1 .entry)) (now (memory2 .entry)) (now (marks2 .entry)) (now (memory3 .entry)) (now (marks3 .entry))) .reason ⌝ }
+) -> Answer
+    ensures answer { λ r. ⌜ r ≡ collectedOf (collectAnswer k (windowOf base (now (memory .entry)) (now (marks .entry))) (boardOf (now (memory0 .entry)) (now (marks0 .entry)) (now (memory1 .entry)) (now (marks1 .entry)) (now (memory2 .entry)) (now (marks2 .entry)) (now (memory3 .entry)) (now (marks3 .entry)))) ⌝ }
     ensures whole { λ _. ⌜ buffersOf (now (memory .exit)) (now (marks .exit)) ≡ collectedWhole k (windowOf base (now (memory .entry)) (now (marks .entry))) (boardOf (now (memory0 .entry)) (now (marks0 .entry)) (now (memory1 .entry)) (now (marks1 .entry)) (now (memory2 .entry)) (now (marks2 .entry)) (now (memory3 .entry)) (now (marks3 .entry))) ⌝ }
 {
     let answer = collect::collect(
@@ -77,6 +80,8 @@ pub extern "C" fn srec_collect_cells(
         memory3,
         marks3,
     );
-    let refused = answer.refusal;
-    refused.reason
+    let refusal = answer.refusal;
+    let header = answer.header;
+    let entry = answer.entry;
+    c_answers::bare_answer(refusal, header, entry)
 }

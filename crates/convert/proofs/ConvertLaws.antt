@@ -111,10 +111,3 @@ module _ (format : Choice) (W : Window) (text out : List ℕ) where
             → Text n ≡ convertedBy (accepted s img) x
         go s img (declined g) q l r = absurd (omega arith)
         go s img (wrote t) q l r = ap Text l
-
--- what a write of the chosen format answers and leaves is that of the format: the returns of `write_as`
-pub write-chosen : (format choice : Choice) → format ≡ choice → (W : Window) (h : List ℕ) (e : Entry) (o out : List ℕ) (r : Written)
-    → (r ≡ writeAnswer (write (formatOf choice) W h e (length o))) × (out ≡ outputAfter o (write (formatOf choice) W h e (length o)))
-    → (r ≡ writeAnswer (write (formatOf format) W h e (length o))) × (out ≡ outputAfter o (write (formatOf format) W h e (length o)))
-write-chosen format choice q W h e o out r p =
-    subst (λ (x : Choice). (r ≡ writeAnswer (write (formatOf x) W h e (length o))) × (out ≡ outputAfter o (write (formatOf x) W h e (length o)))) (sym q) p

@@ -1,15 +1,12 @@
 // A text to its canonical text: a load, and a write of what it left, both in the format that is told.
 use formats::Format;
 use marks::Form;
-use window::Entry;
 use window::Refusal;
-use window::Written;
 ghost use mathlib.Core.Path.{_≡_};
 ghost use lib.ListN.{length};
 ghost use Rattle.window.specs.Windows.{windowOf};
 ghost use Rattle.text.specs.Formats.{plan};
 ghost use Rattle.text.specs.Load.{load, memoryAfter, marksAfter};
-ghost use Rattle.text.specs.Write.{write, writeAnswer, outputAfter};
 ghost use Rattle.formats.specs.Choices.{formatOf};
 ghost use Rattle.convert.specs.Conversions.{converted, outputOf};
 
@@ -17,33 +14,6 @@ ghost use Rattle.convert.specs.Conversions.{converted, outputOf};
 pub enum Converted {
     Refused(Refusal),
     Text(usize),
-}
-
-// Writes the canonical text of a window.
-fn write_as(
-    format: Format,
-    base: u32,
-    memory: &[u8],
-    marks: &[u8],
-    header: &[u8],
-    entry: Entry,
-    out: &mut [u8],
-) -> Written
-    ensures answer { λ r. ⌜ r ≡ writeAnswer (write (formatOf format) (windowOf base (now (memory .entry)) (now (marks .entry))) (now (header .entry)) entry (length (now (out .entry)))) ⌝ }
-    ensures output { λ _. ⌜ now (out .exit) ≡ outputAfter (now (out .entry)) (write (formatOf format) (windowOf base (now (memory .entry)) (now (marks .entry))) (now (header .entry)) entry (length (now (out .entry)))) ⌝ }
-{
-    match format {
-        Format::Records => srec_write::write(base, memory, marks, header, entry, out),
-        Format::Tape(edition) => tape_write::write(
-            edition,
-            base,
-            memory,
-            marks,
-            header,
-            entry,
-            out,
-        ),
-    }
 }
 
 // Loads a text into a window, as `load_as` does, and writes what it left to the output.
@@ -69,7 +39,7 @@ pub fn convert(
     let bytes = header.bytes;
     let len = header.len;
     let entry = loaded.entry;
-    let written = write_as(format, base, memory, marks, &bytes[..len], entry, out);
+    let written = writer::write(format, base, memory, marks, &bytes[..len], entry, out);
     let declined = written.refusal;
     if declined.reason != 0 {
         return Converted::Refused(declined);

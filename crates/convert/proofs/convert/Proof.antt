@@ -42,7 +42,7 @@ loads c = let a = call c .args in in-bytes (a .base) (a .memory .now) (a .marks 
 abbrev behind : tie.Else1 → tie.After-load-as
 behind c = c .before .before .before .before .before .before .before
 
-abbrev passed : tie.After-write-as → tie.Else1
+abbrev passed : tie.After-write → tie.Else1
 passed c = c .before .before .before .before .before .before .before
 
 -- the load was accepted, and the write is the one behind it
@@ -58,8 +58,8 @@ returns c =
 array-share-prefix-bytes : tie.Need-array-share-prefix-bytes
 array-share-prefix-bytes c = let l = behind (c .before .before .before .before) in rw (loads l .0) (header-fits (formatOf (format l)) (window l) (text l))
 
-slice-aggregate-write-as : tie.Need-slice-aggregate-write-as
-slice-aggregate-write-as c =
+slice-aggregate-write : tie.Need-slice-aggregate-write
+slice-aggregate-write c =
     let l = behind (c .before .before .before .before .before) in
     sym (length-take-le _ _ (rw (loads l .0) (header-fits (formatOf (format l)) (window l) (text l))))
 
@@ -70,7 +70,7 @@ returns-2 c =
     let e = loads l in
     let is = written-is (formatOf (format l)) (window l) (text l) (length (out l)) (l .load-as .result) _ _ (e .0) (e .1 .0) (e .1 .1) in
     let r = write-refused (format l) (window l) (text l) (out l) (accepted-at (passed w)) _ is _ _
-    (ap (λ (x : Written). x .refusal) (w .write-as .ensures .0)) (c .if2 .taken) (w .write-as .ensures .1) in
+    (ap (λ (x : Written). x .refusal) (w .write .ensures .0)) (c .if2 .taken) (w .write .ensures .1) in
     (r .0, (e .1 .0, (e .1 .1, r .1)))
 
 returns-3 : tie.Need-returns-3
@@ -80,8 +80,8 @@ returns-3 c =
     let e = loads l in
     let is = written-is (formatOf (format l)) (window l) (text l) (length (out l)) (l .load-as .result) _ _ (e .0) (e .1 .0) (e .1 .1) in
     let r = text-written (format l) (window l) (text l) (out l) (accepted-at (passed w)) _ is _ _
-    (sym (ap (λ (x : Written). x .refusal .reason) (w .write-as .ensures .0)) ∙ c .if2 .left)
-    (ap (λ (x : Written). x .length) (w .write-as .ensures .0)) (w .write-as .ensures .1) in
+    (sym (ap (λ (x : Written). x .refusal .reason) (w .write .ensures .0)) ∙ c .if2 .left)
+    (ap (λ (x : Written). x .length) (w .write .ensures .0)) (w .write .ensures .1) in
     (r .0, (e .1 .0, (e .1 .1, r .1)))
 
 pub convert-spec : {M : Type 1} → statement M
@@ -93,7 +93,7 @@ convert-spec =
     (λ c. search needs)
     returns
     array-share-prefix-bytes
-    slice-aggregate-write-as
+    slice-aggregate-write
     (λ c κs. search needs)
     (λ c. search needs)
     (λ c. search needs)

@@ -1,9 +1,9 @@
--- `write_as` meets its contract: the writer of the format that it was told.
+-- `write` meets its contract: the writer of the format that it was told.
 use Rattle.window.specs.Windows.{windowOf}
-use Rattle.convert.proofs.ConvertLaws.{write-chosen}
+use Rattle.writer.proofs.WriterLaws.{write-chosen}
 use borrow.Author.Needs.{needs}
-use Rattle.convert.proofs.write_as.Statement.{statement}
-use Rattle.convert.proofs.write_as.Tie as tie
+use Rattle.writer.proofs.write.Statement.{statement}
+use Rattle.writer.proofs.write.Tie as tie
 
 returns : tie.Need-returns
 returns c =
@@ -21,8 +21,8 @@ returns-2 c =
     write-chosen (a .format) _ (told .format .given .1) (windowOf (a .base) (a .memory .now) (a .marks .now)) (a .header .now) (a .entry)
     (a .out .now) _ _ (w .write2 .ensures)
 
-pub write-as-spec : {M : Type 1} → statement M
-write-as-spec =
+pub write-spec : {M : Type 1} → statement M
+write-spec =
     tie.close
     (tie.spec
     (λ c. search needs)
