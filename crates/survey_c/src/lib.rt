@@ -1,0 +1,51 @@
+// The span of a text's cells, and the record that a cell's byte comes from, for C. include/srec.h declares them.
+ghost use mathlib.Core.Path.{_≡_};
+ghost use Rattle.text.specs.Formats.{plan};
+ghost use Rattle.formats.specs.Choices.{formatOf};
+ghost use Rattle.spans.specs.Spans.{spanOf, originOf};
+ghost use Rattle.c_answers.specs.Answers.{formatFor};
+ghost use Rattle.survey_c.specs.Told.{reachOf, sourceOf};
+
+// A span: `struct srec_span`.
+#[repr(C)]
+pub struct Reach {
+    pub any: u32,
+    pub lowest: usize,
+    pub highest: usize,
+}
+
+// A record that addresses a cell: `struct srec_origin`.
+#[repr(C)]
+pub struct Source {
+    pub ordinal: usize,
+    pub place: usize,
+    pub byte: u32,
+}
+
+// The lowest and the highest address that the data records of a text address.
+#[no_mangle]
+pub extern "C" fn srec_span(format: u32, text: &[u8]) -> Reach
+    ensures { λ r. ⌜ r ≡ reachOf (spanOf (plan (formatOf (formatFor format)) (now (text .entry)))) ⌝ }
+{
+    let choice = c_answers::format_for(format);
+    let span = survey::span_of(choice, text);
+    Reach {
+        any: span.any as u32,
+        lowest: span.lowest,
+        highest: span.highest,
+    }
+}
+
+// The first record of a text that addresses a cell.
+#[no_mangle]
+pub extern "C" fn srec_where(format: u32, text: &[u8], address: u32) -> Source
+    ensures { λ r. ⌜ r ≡ sourceOf (originOf address (plan (formatOf (formatFor format)) (now (text .entry)))) ⌝ }
+{
+    let choice = c_answers::format_for(format);
+    let origin = survey::origin_of(choice, text, address);
+    Source {
+        ordinal: origin.ordinal,
+        place: origin.place,
+        byte: origin.byte as u32,
+    }
+}
