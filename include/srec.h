@@ -155,6 +155,43 @@ struct srec_loaded srec_load_sheet(const uint8_t *text, size_t text_len, const u
 /* As srec_span, for the bytes of a patch sheet, up to the first field that one of rows 22 to 27 refuses. */
 struct srec_span srec_span_sheet(const uint8_t *text, size_t text_len, const uint8_t *sheet, size_t sheet_len);
 
+/* ---- S-records in parts, as they arrive */
+
+/* The state of a load in parts between two calls: what one call gives back is handed to the next as it is. A caller may read
+ * `reason`, 0 as long as nothing is refused, and `total`. No content of it makes a call do anything undefined. */
+struct srec_parts {
+    uint32_t reason;    /* of a refused load: the row, and nothing else counts but want, record and place */
+    uint8_t want;       /* as in srec_loaded */
+    uint8_t ended;      /* 1 behind the terminator */
+    uint32_t has_entry; /* the terminator's entry */
+    uint32_t entry;
+    size_t record; /* as in srec_loaded */
+    size_t place;
+    size_t size;    /* the memory's length at the beginning */
+    size_t total;   /* characters so far */
+    size_t begins;  /* where the record begins that is not complete */
+    size_t number;  /* records so far */
+    size_t records; /* data records so far */
+    size_t cells;   /* cells so far */
+    size_t head;    /* the header's length */
+    size_t held;    /* how many characters of the record that is not complete are held */
+    uint8_t header[252];
+    uint8_t line[516];
+};
+
+/* Begins a load in parts: row 1, and all marks are cleared. */
+struct srec_parts srec_begin(uint32_t base, const uint8_t *memory, size_t memory_len, uint8_t *marks, size_t marks_len);
+
+/* Takes one more part of the text, of any length, with the same window. A record is stored as soon as its line end has
+ * arrived, so after a refusal memory keeps the records before the refused one; every mark is then 0. Row 20 refuses a part
+ * that would bring the text past 4,294,967,295 characters. */
+struct srec_parts srec_feed(struct srec_parts parts, const uint8_t *part, size_t part_len, uint32_t base, uint8_t *memory,
+                            size_t memory_len, uint8_t *marks, size_t marks_len);
+
+/* Ends a load in parts. The answer is that of srec_load_as for the whole text, wherever it was cut. */
+struct srec_loaded srec_end(struct srec_parts parts, uint32_t base, uint8_t *memory, size_t memory_len, uint8_t *marks,
+                            size_t marks_len);
+
 /* ---- the row alone */
 
 /* Loads a text into a window. Returns 0 if the text is accepted, else the number of the row (1 to 14, never 9) that refuses it.

@@ -34,7 +34,7 @@ pub struct Result {
 }
 
 // 1 for an entry, 0 for none.
-fn flag(entry: Entry) -> u32
+pub fn flag(entry: Entry) -> u32
     ensures { λ r. ⌜ r ≡ flagOf (isPresent entry) ⌝ }
 {
     match entry {
@@ -44,7 +44,7 @@ fn flag(entry: Entry) -> u32
 }
 
 // The address of an entry, 0 for none.
-fn address_of(entry: Entry) -> u32
+pub fn address_of(entry: Entry) -> u32
     ensures { λ r. ⌜ r ≡ addressOf entry ⌝ }
 {
     match entry {
