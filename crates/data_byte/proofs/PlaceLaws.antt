@@ -9,7 +9,6 @@ use lib.Seq.{getD-take, getD-drop, length-take-le}
 use Rattle.lists.proofs.TestLaws.{by-test}
 use Rattle.hex.specs.Digits.{byteOf, bytes}
 use Rattle.hex.proofs.PairLaws.{byte-at}
-use Rattle.srec.specs.Kinds.{Kind}
 use Rattle.srec.specs.Kinds.Kind.{S0, Data, S5, End}
 use Rattle.srec.specs.Reading.{Read, read}
 use Rattle.srec.specs.Reading.Read.{good, bad}

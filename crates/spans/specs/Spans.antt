@@ -67,3 +67,7 @@ originAmong A (r ∷ rs) = let o = originAmong A rs in cond (covers (r .addr) (l
 -- the first of a plan's records that addresses the cell at A
 abbrev pub originOf : ℕ → Plan → Origin
 originOf A p = originAmong A (storesOf p)
+
+-- what was found first, or else what was found then
+abbrev pub orElse : Origin → Origin → Origin
+orElse o p = cond (eqb (o .ordinal) 0) p o

@@ -5,11 +5,9 @@ use native.Mathlib.Omega.{arith}
 use mathlib.Core.List.{List, [], _∷_}
 use lib.Dec.{eqb}
 use lib.ListN.{length}
-use borrow.Author.Tests.{eqb-true, ne-eqb}
+use borrow.Author.Tests.{eqb-true}
 use Rattle.lists.proofs.TestLaws.{by-test}
 use Rattle.window.specs.declared.Entry.{Entry}
-use Rattle.window.specs.Plans.{Plan}
-use Rattle.window.specs.Plans.Plan.{stop}
 use Rattle.text.specs.declared.State.{State}
 use Rattle.text.specs.Lines.{Line}
 use Rattle.text.specs.Scan.{State as ScanState, ended}
@@ -21,11 +19,10 @@ use Rattle.formats.specs.declared.Format.the-variants.{Records, Tape}
 use Rattle.formats.proofs.ChoiceLaws.{limitsOf}
 use Rattle.spans.specs.declared.Span.{Span}
 use Rattle.spans.specs.declared.Origin.{Origin}
-use Rattle.spans.specs.Spans.{Store, storesOf, noSpan, widened, spanWith, nowhere, covers, originAmong}
+use Rattle.spans.specs.Spans.{Store, storesOf, noSpan, widened, spanWith, nowhere, covers, originAmong, orElse}
+use Rattle.spans.proofs.OriginLaws.{origin-more}
 use Rattle.data_byte.specs.Places.{bytesIn}
-use Rattle.survey.specs.declared.Head.{Head}
-use Rattle.survey.specs.declared.Survey.{Survey}
-use Rattle.survey.specs.Surveys.{surveyOf, storeOf, orElse, surveyWith}
+use Rattle.survey.specs.Surveys.{surveyOf, storeOf, surveyWith}
 use Rattle.survey.proofs.LeftLaws.{Left, left-start, PutOn}
 
 -- an origin without a number is none
@@ -60,20 +57,12 @@ module _ {F : Format} {text : List ℕ} {A : ℕ} {s : Span} {o : Origin} {n : S
       → record { span = s; origin = o } ≡ surveyOf A (plan F text)
   going-ended e ls q = going-end (ap (surveyWith A s o) (sym (ended-stores (stateWith (g .left .header) n) e ls)) ∙ q)
 
-module _ (A : ℕ) (o : Origin) (r : Store) (k : r .number ≡ 0 → ⊥) where
-  -- one record is looked at, then the others
-  origin-more : (rs : List Store) → orElse (orElse o (originAmong A (r ∷ []))) (originAmong A rs) ≡ orElse o (originAmong A (r ∷ rs))
-  origin-more rs =
-      by-test (eqb (o .ordinal) 0)
-      (λ t. by-test (covers (r .addr) (length (r .bytes)) A) (λ c. rw (t, c, ne-eqb (r .number) 0 k)) (λ c. rw (t, c)))
-      (λ t. rw (t, t))
-
-  -- what one record gives
-  origin-settled : Settled o → Settled (orElse o (originAmong A (r ∷ [])))
-  origin-settled h =
-      by-test (eqb (o .ordinal) 0)
-      (λ t. by-test (covers (r .addr) (length (r .bytes)) A) (λ c. rw (t, c) (λ e. absurd (k e))) (λ c. rw (t, c) (λ e. refl)))
-      (λ t. rw t h)
+-- what one record gives
+origin-settled : (A : ℕ) (o : Origin) (r : Store) → (r .number ≡ 0 → ⊥) → Settled o → Settled (orElse o (originAmong A (r ∷ [])))
+origin-settled A o r k h =
+    by-test (eqb (o .ordinal) 0)
+    (λ t. by-test (covers (r .addr) (length (r .bytes)) A) (λ c. rw (t, c) (λ e. absurd (k e))) (λ c. rw (t, c) (λ e. refl)))
+    (λ t. rw t h)
 
 -- what was made of the plan before a data line
 abbrev pub Surveying : Format → List ℕ → ℕ → Span → Origin → ℕ → State → State → ℕ → ℕ → ℕ → ℕ → Type 0

@@ -12,8 +12,8 @@ ghost use Rattle.hex.specs.Tables.{digitTable};
 ghost use Rattle.text.specs.Formats.{plan};
 ghost use Rattle.formats.specs.Choices.{formatOf};
 ghost use Rattle.data_byte.specs.Places.{bytesIn};
-ghost use Rattle.spans.specs.Spans.{spanOf, originAmong, originOf};
-ghost use Rattle.survey.specs.Surveys.{storeOf, orElse, surveyOf};
+ghost use Rattle.spans.specs.Spans.{spanOf, originAmong, originOf, orElse};
+ghost use Rattle.survey.specs.Surveys.{storeOf, surveyOf};
 
 // The span of a text, and the origin of one cell.
 pub struct Survey {

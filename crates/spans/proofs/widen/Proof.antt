@@ -1,5 +1,4 @@
 -- `widen` meets its contract.
-use native.Mathlib.Omega.{arith}
 use borrow.Author.Tests.{eq-eqb, ne-eqb}
 use borrow.Author.Needs.{needs}
 use Rattle.spans.specs.Spans.{widened}
