@@ -1,0 +1,156 @@
+#include "image.h"
+
+#include <inttypes.h>
+#include <stdlib.h>
+#include <string.h>
+
+#include "refusal.h"
+
+/* How many cells a window has at most that was not asked for: the load writes a mark for each, so a text of two records
+ * could else take all memory that there is. */
+#define MOST_CELLS ((uint64_t)1 << 30)
+
+struct srec_span span_of(const struct input *input)
+{
+    struct records records = records_of(input);
+
+    return srec_span(records.format, records.text, records.length);
+}
+
+struct srec_span both_spans(struct srec_span one, struct srec_span other)
+{
+    if (!one.any)
+        return other;
+    if (other.any) {
+        one.lowest = other.lowest < one.lowest ? other.lowest : one.lowest;
+        one.highest = other.highest > one.highest ? other.highest : one.highest;
+    }
+    return one;
+}
+
+enum status make_window(uint32_t base, size_t length, const char *name, struct window *window)
+{
+    size_t size = length > 0 ? length : 1;
+
+    window->base = base;
+    window->length = length;
+    /* Memory that is never written takes no room in most systems, so memory is not cleared by hand. */
+    window->memory = calloc(size, 1);
+    window->marks = malloc(size);
+    if (!window->memory || !window->marks)
+        return trouble(name, "there is no memory for a window of %zu cells", length);
+    return DONE;
+}
+
+static enum status too_wide(uint64_t base, uint64_t length, const char *name)
+{
+    return trouble(name,
+                   "the cells lie from %08" PRIX64 " to %08" PRIX64 ": a window of %" PRIu64 " cells, and above %" PRIu64
+                   " it must be asked for, with --window %" PRIX64 ":%" PRIX64,
+                   base, base + length - 1, length, MOST_CELLS, base, length);
+}
+
+enum status open_window(const struct options *options, struct srec_span span, size_t unit, const char *name,
+                        struct window *window)
+{
+    uint64_t base = 0;
+    uint64_t length = 0;
+
+    memset(window, 0, sizeof *window);
+    if (options->given & OPTION_WINDOW) {
+        base = options->base;
+        length = options->length;
+    } else if (span.any) {
+        uint64_t highest = span.highest < UINT32_MAX ? span.highest : UINT32_MAX;
+
+        base = span.lowest - span.lowest % unit;
+        length = highest - base + 1;
+        length += (unit - length % unit) % unit;
+        if (length > MOST_CELLS)
+            return too_wide(base, length, name);
+    }
+    return make_window((uint32_t)base, (size_t)length, name, window);
+}
+
+void close_window(struct window *window)
+{
+    free(window->memory);
+    free(window->marks);
+    memset(window, 0, sizeof *window);
+}
+
+enum status load_image(const struct input *input, struct image *image)
+{
+    struct window *window = &image->window;
+
+    image->kind = input->kind;
+    if (input->kind == KIND_SYMBOLS)
+        image->answer = srec_load_behind(input->bytes, input->length, window->base, window->memory, window->length,
+                                         window->marks, window->length);
+    else
+        image->answer = srec_load_as(format_of(input->kind), input->bytes, input->length, window->base, window->memory,
+                                     window->length, window->marks, window->length);
+    if (image->answer.reason == 0)
+        return DONE;
+    tell_refusal(input, window, &image->answer);
+    return REFUSED;
+}
+
+enum status load_file(const char *path, const struct options *options, size_t unit, struct image *image)
+{
+    struct input input;
+    enum status status;
+
+    memset(image, 0, sizeof *image);
+    status = open_input(path, options, &input);
+    if (status == DONE)
+        status = open_window(options, span_of(&input), unit, input.name, &image->window);
+    if (status == DONE)
+        status = load_image(&input, image);
+    close_input(&input);
+    return status;
+}
+
+enum status make_text(uint32_t format, const struct image *image, const char *name, struct product *product)
+{
+    const struct window *window = &image->window;
+    const struct srec_loaded *answer = &image->answer;
+    struct srec_written written =
+        srec_room(format, window->base, window->memory, window->length, window->marks, window->length, answer->header,
+                  answer->header_len, answer->has_entry, answer->entry);
+
+    memset(product, 0, sizeof *product);
+    if (written.reason == 0) {
+        product->bytes = malloc(written.length);
+        if (!product->bytes)
+            return trouble(name, "there is no memory for a text of %zu characters", written.length);
+        written = srec_write_as(format, window->base, window->memory, window->length, window->marks, window->length,
+                                answer->header, answer->header_len, answer->has_entry, answer->entry, product->bytes,
+                                written.length);
+    }
+    if (written.reason != 0) {
+        tell_refused_write(name, window, &written);
+        return REFUSED;
+    }
+    product->length = written.length;
+    return DONE;
+}
+
+enum status put_text(uint32_t format, const struct image *image, const char *name, const struct options *options)
+{
+    struct product product;
+    enum status status = make_text(format, image, name, &product);
+
+    if (status == DONE)
+        status = put_product(options->out, &product);
+    free(product.bytes);
+    return status;
+}
+
+void set_entry(const struct options *options, struct image *image)
+{
+    if (options->given & OPTION_ENTRY) {
+        image->answer.has_entry = 1;
+        image->answer.entry = options->entry;
+    }
+}
