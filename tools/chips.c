@@ -1,4 +1,6 @@
 /* deal and collect: an image over two or four chips, and back. */
+#include <inttypes.h>
+#include <stdio.h>
 #include <stdlib.h>
 #include <string.h>
 
@@ -136,31 +138,38 @@ static enum status open_chips(const struct options *options, const struct chips 
             *span = both_spans(*span, span_of(&inputs[i]));
         status = worse(status, opened);
     }
-    if (status == DONE && span->any && span->highest >= ((uint64_t)UINT32_MAX + 1) / chips->count)
-        return refused("the chips' cells", 1);
+    if (status == DONE && span->any && span->highest >= ((uint64_t)UINT32_MAX + 1) / chips->count) {
+        fprintf(stderr, "the chips: cell %08" PRIX64 " of one of %zu chips would lie past FFFFFFFF (refusal 1)\n",
+                span->highest, chips->count);
+        return REFUSED;
+    }
     return status;
 }
 
-/* Reads all chips before the first is loaded, since all windows are the same. */
+/* Loads every chip, also if an earlier one is refused, so that all refusals are told. */
+static enum status load_each(const struct input *inputs, struct chips *chips)
+{
+    enum status status = DONE;
+
+    for (size_t i = 0; i < chips->count; i++)
+        status = worse(status, load_image(&inputs[i], &chips->images[i]));
+    return status;
+}
+
+/* Reads all chips before the first is loaded, since all have the same window. */
 static enum status load_chips(const struct options *options, struct chips *chips)
 {
     const struct srec_span none = {0, 0, 0};
-    struct input inputs[MOST_CHIPS];
     struct srec_span span = none;
+    struct input inputs[MOST_CHIPS];
     enum status status;
 
     memset(inputs, 0, sizeof inputs);
     status = open_chips(options, chips, inputs, &span);
-    for (size_t i = 0; i < MOST_CHIPS && status == DONE; i++) {
-        struct window *window = &chips->images[i].window;
-
-        status = open_window(options, i < chips->count ? span : none, 1, NULL, window);
-    }
-    /* Every chip is loaded also if an earlier one is refused, so that all refusals are told. */
-    for (size_t i = 0; i < chips->count && status != TROUBLE; i++) {
-        if (chips->images[MOST_CHIPS - 1].window.memory)
-            status = worse(status, load_image(&inputs[i], &chips->images[i]));
-    }
+    for (size_t i = 0; status == DONE && i < MOST_CHIPS; i++)
+        status = open_window(options, i < chips->count ? span : none, 1, NULL, &chips->images[i].window);
+    if (status == DONE)
+        status = load_each(inputs, chips);
     for (size_t i = 0; i < chips->count; i++)
         close_input(&inputs[i]);
     return status;

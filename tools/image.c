@@ -45,8 +45,8 @@ enum status make_window(uint32_t base, size_t length, const char *name, struct w
 static enum status too_wide(uint64_t base, uint64_t length, const char *name)
 {
     return trouble(name,
-                   "the cells lie from %08" PRIX64 " to %08" PRIX64 ": a window of %" PRIu64 " cells, and above %" PRIu64
-                   " it must be asked for, with --window %" PRIX64 ":%" PRIX64,
+                   "the cells lie from %08" PRIX64 " to %08" PRIX64 " and take a window of %" PRIu64
+                   "; one of more than %" PRIu64 " must be asked for, with --window %" PRIX64 ":%" PRIX64,
                    base, base + length - 1, length, MOST_CELLS, base, length);
 }
 

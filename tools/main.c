@@ -30,7 +30,7 @@ static const struct command {
     {"canon", "[-o OUT] FILE", "writes the canonical text", run_canon, LOADING | OPTION_OUT, 1, 1},
     {"diff", "A B", "compares header, entry and cells", run_diff, LOADING, 2, 2},
     {"info", "[--map] FILE", "shows what an image consists of", run_info, LOADING | OPTION_MAP, 1, 1},
-    {"where", "FILE ADDRESS..", "tells which line gives a cell", run_where, READING, 2, MANY},
+    {"where", "FILE ADDRESS..", "tells which line gives a cell", run_where, LOADING, 2, MANY},
     {"convert", "--to srec|tape [--edition repeat|sum] [--entry ADDRESS] [-o OUT] FILE", "writes the other format",
      run_convert, LOADING | OPTION_TO | OPTION_ENTRY | OPTION_OUT, 1, 1},
     {"merge", "[--entry ADDRESS] [-o OUT] BASE PATCH..", "lays patches over a base, in order", run_merge,
@@ -45,25 +45,29 @@ static const struct command {
 
 enum { COMMANDS = sizeof commands / sizeof commands[0] };
 
-static enum status print_help(void)
+static void print_common(void)
 {
-    printf("usage: srec COMMAND [OPTION..] OPERAND..\n\n");
-    for (size_t i = 0; i < COMMANDS; i++)
-        printf("  srec %s %s\n      %s\n", commands[i].name, commands[i].usage, commands[i].words);
     printf("\nA FILE may be -, which is standard input. Numbers are in hex digits, with or without 0x.\n"
            "  --from srec|tape|tape-sum|symbols   the format that is read; else the first character tells it\n"
            "  --edition repeat|sum                how the last line of a tape is checked; else repeat\n"
            "  --window BASE:LENGTH                the addresses that may be used; else those that are\n"
            "  --help, --version\n"
            "Exit status: 0, 1 if a text is refused or two differ, 2 for trouble. More is in srec(1).\n");
+}
+
+static enum status print_help(void)
+{
+    printf("usage: srec COMMAND [OPTION..] OPERAND..\n\n");
+    for (size_t i = 0; i < COMMANDS; i++)
+        printf("  srec %s %s\n      %s\n", commands[i].name, commands[i].usage, commands[i].words);
+    print_common();
     return DONE;
 }
 
 static enum status print_usage(const struct command *command)
 {
-    printf("usage: srec %s%s %s\n", command->name,
-           command->options & OPTION_WINDOW ? " [--from FORMAT] [--window BASE:LENGTH]" : " [--from FORMAT]",
-           command->usage);
+    printf("usage: srec %s %s\n  %s\n", command->name, command->usage, command->words);
+    print_common();
     return DONE;
 }
 

@@ -15,7 +15,7 @@ enum {
     MARGIN = 11 /* an address and what stands round the signs */
 };
 
-/* The picture's measures. A line begins at a multiple of signs * scale. */
+/* The picture's measures. A line begins at a multiple of signs * cells. */
 struct scale {
     uint64_t signs; /* of a line: a power of two */
     uint64_t cells; /* of a sign: a power of two */
@@ -90,7 +90,7 @@ void print_map(const struct window *window)
         continue;
     highest = (uint64_t)window->base + last.to - 1;
     scale = choose_scale(lowest, highest);
-    printf("map: a sign is %" PRIu64 " cells, # all of them, + some, . none\n", scale.cells);
+    printf("map: %" PRIu64 " cell%s a sign: # all, + some, . none\n", scale.cells, scale.cells == 1 ? "" : "s");
     for (uint64_t at = lowest - lowest % (scale.signs * scale.cells); at <= highest; at += scale.signs * scale.cells)
         print_line(window, &run, &scale, at);
 }

@@ -4,8 +4,8 @@
 
 #include "image.h"
 
-/* Prints lines of an address and signs, each sign for as many cells: # for all of them, + for some, . for none. It has at
- * most 24 lines, as wide as the terminal, or 80 columns where there is none. */
+/* Prints lines of an address and signs, each sign for equally many cells: # if all of them are marked, + for some, . for
+ * none. There are at most 24 lines. They fit the columns of COLUMNS, else of the terminal, else 80. */
 void print_map(const struct window *window);
 
 #endif

@@ -19,6 +19,7 @@ static enum status open_files(const struct options *options, struct files *files
 
     memset(files, 0, sizeof *files);
     status = open_input(options->symbols, options, &files->symbols);
+    files->symbols.kind = KIND_SYMBOLS;
     status = worse(status, open_input(options->operands[0], options, &files->sheet));
     if (options->over)
         status = worse(status, open_input(options->over, options, &files->base));

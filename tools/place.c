@@ -13,7 +13,7 @@ static int ends_line(uint8_t byte)
 struct spot spot_of(const struct input *input, size_t place)
 {
     const uint8_t *bytes = input->bytes;
-    struct spot spot = {1, 1, 0, 0};
+    struct spot spot = {1, 1, 0};
 
     for (size_t i = 0; i < place; i++) {
         int before_lf = i + 1 < input->length && bytes[i + 1] == '\n';
@@ -24,15 +24,12 @@ struct spot spot_of(const struct input *input, size_t place)
         }
     }
     spot.column = place - spot.begin + 1;
-    spot.end = place;
-    while (spot.end < input->length && !ends_line(bytes[spot.end]))
-        spot.end++;
     return spot;
 }
 
 static char shown(uint8_t byte)
 {
-    return byte >= 0x20 && byte < 0x7F ? (char)byte : '.';
+    return byte >= 0x20 && byte < 0x7F ? (char)byte : '?';
 }
 
 static void show_part(const uint8_t *bytes, size_t length, int cut_before, int cut_behind)
@@ -50,20 +47,19 @@ void show_text(const uint8_t *bytes, size_t length)
 
 void show_spot(const struct input *input, size_t place)
 {
-    struct spot spot = spot_of(input, place);
-    size_t from = spot.begin;
-    size_t to = spot.end;
+    size_t begin = spot_of(input, place).begin;
+    size_t from = place - begin > SHOWN ? place - SHOWN / 2 : begin;
+    size_t to = from;
 
-    if (from == to)
+    while (to < input->length && !ends_line(input->bytes[to]) && to - from <= SHOWN)
+        to++;
+    if (to == begin)
         return;
-    if (to - from > SHOWN) {
-        if (place - from > SHOWN / 2)
-            from = place - SHOWN / 2;
-        if (to - from > SHOWN)
-            to = from + SHOWN;
-    }
-    show_part(input->bytes + from, to - from, from > spot.begin, to < spot.end);
-    fprintf(stderr, "%*s^\n", (int)(place - from) + (from > spot.begin ? 5 : 2), "");
+    if (to - from > SHOWN)
+        show_part(input->bytes + from, SHOWN, from > begin, 1);
+    else
+        show_part(input->bytes + from, to - from, from > begin, 0);
+    fprintf(stderr, "%*s^\n", (int)(place - from) + (from > begin ? 5 : 2), "");
 }
 
 static unsigned digit_of(uint8_t c)

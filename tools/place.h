@@ -12,13 +12,12 @@ struct spot {
     size_t line;   /* from 1 */
     size_t column; /* from 1, in bytes */
     size_t begin;  /* the index of the line's first character */
-    size_t end;    /* the index behind its last one */
 };
 
 /* The spot of an index into an input, at most its length. */
 struct spot spot_of(const struct input *input, size_t place);
 
-/* Prints the line and a caret under the place on standard error: of a long line what is near, and a dot for every character
+/* Prints the line and a caret under the place on standard error: of a long line what is near, and a ? for every character
  * that is not printable ASCII. Prints nothing for an empty line. */
 void show_spot(const struct input *input, size_t place);
 

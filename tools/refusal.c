@@ -56,7 +56,7 @@ size_t place_of(const struct input *input, const struct srec_loaded *answer)
 static void tell_edition(const struct input *input, size_t place)
 {
     if (input->length - place >= 3 && memcmp(input->bytes + place, ";00", 3) == 0)
-        fprintf(stderr, "  a last line is checked by the tape's edition: there is --edition %s, too\n",
+        fprintf(stderr, "  it is the last line, which is checked by the tape's edition; --edition %s is the other one\n",
                 input->kind == KIND_TAPE_REPEAT ? "sum" : "repeat");
 }
 
