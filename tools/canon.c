@@ -8,8 +8,8 @@ enum status run_canon(const struct options *options)
     enum status status = load_file(options->operands[0], options, 1, &image);
 
     if (status == DONE)
-        status = put_text(format_of(image.kind), &image, input_name(options->operands[0]), options);
-    close_window(&image.window);
+        status = put_text(format_of(image.kind), &image, input_name(options->operands[0]), options->out);
+    close_image(&image);
     return status;
 }
 
@@ -43,8 +43,8 @@ enum status run_convert(const struct options *options)
             set_entry(options, &image);
         else
             drop(name, &image);
-        status = put_text(options->to, &image, name, options);
+        status = put_text(options->to, &image, name, options->out);
     }
-    close_window(&image.window);
+    close_image(&image);
     return status;
 }

@@ -10,7 +10,7 @@ enum status run_check(const struct options *options)
         struct image image;
 
         status = worse(status, load_file(options->operands[i], options, 1, &image));
-        close_window(&image.window);
+        close_image(&image);
     }
     return status;
 }

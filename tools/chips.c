@@ -39,7 +39,7 @@ static enum status name_chips(struct chips *chips, const char *prefix, size_t co
 static void close_chips(struct chips *chips)
 {
     for (size_t i = 0; i < MOST_CHIPS; i++) {
-        close_window(&chips->images[i].window);
+        close_image(&chips->images[i]);
         free(chips->paths[i]);
     }
 }
@@ -91,7 +91,7 @@ static enum status put_chips(struct chips *chips)
         paths[i] = chips->paths[i];
         plain_answer(&chips->images[i]);
         status = make_text(SREC_RECORDS, &chips->images[i], paths[i], &products[i]);
-        close_window(&chips->images[i].window);
+        close_image(&chips->images[i]);
     }
     if (status == DONE)
         status = put_products(paths, products, chips->count);
@@ -119,7 +119,7 @@ enum status run_deal(const struct options *options)
         status = load_file(options->operands[0], options, options->chips, &whole);
     if (status == DONE)
         status = deal(&whole.window, &chips, input_name(options->operands[0]));
-    close_window(&whole.window);
+    close_image(&whole);
     if (status == DONE)
         status = put_chips(&chips);
     close_chips(&chips);
@@ -207,13 +207,12 @@ enum status run_collect(const struct options *options)
     if (status == DONE)
         status = collect(&chips, &whole.window);
     if (status == DONE) {
-        struct options out = *options;
+        const char *out = strcmp(options->operands[1], "-") == 0 ? NULL : options->operands[1];
 
-        out.out = strcmp(options->operands[1], "-") == 0 ? NULL : options->operands[1];
         plain_answer(&whole);
-        status = put_text(SREC_RECORDS, &whole, "the collected image", &out);
+        status = put_text(SREC_RECORDS, &whole, "the collected image", out);
     }
-    close_window(&whole.window);
+    close_image(&whole);
     close_chips(&chips);
     return status;
 }

@@ -110,7 +110,7 @@ static enum status load_and_compare(const struct input *inputs, const struct opt
     /* As with diff: what cannot be compared is trouble, since 1 would say that they differ. */
     status = status == DONE ? compare(&images[0], &images[1]) : TROUBLE;
     for (int i = 0; i < 2; i++)
-        close_window(&images[i].window);
+        close_image(&images[i]);
     return status;
 }
 

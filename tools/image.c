@@ -4,6 +4,7 @@
 #include <stdlib.h>
 #include <string.h>
 
+#include "guess.h"
 #include "refusal.h"
 
 /* How many cells a window has at most that was not asked for: the load writes a mark for each, so a text of two records
@@ -79,7 +80,15 @@ void close_window(struct window *window)
     memset(window, 0, sizeof *window);
 }
 
-enum status load_image(const struct input *input, struct image *image)
+void close_image(struct image *image)
+{
+    close_window(&image->window);
+    free(image->spare.bytes);
+    memset(image, 0, sizeof *image);
+}
+
+/* Returns the row that refuses the input, and tells nothing. */
+static uint32_t load_quietly(const struct input *input, struct image *image)
 {
     struct window *window = &image->window;
 
@@ -90,10 +99,40 @@ enum status load_image(const struct input *input, struct image *image)
     else
         image->answer = srec_load_as(format_of(input->kind), input->bytes, input->length, window->base, window->memory,
                                      window->length, window->marks, window->length);
+    return image->answer.reason;
+}
+
+static enum status told(const struct input *input, const struct image *image)
+{
     if (image->answer.reason == 0)
         return DONE;
-    tell_refusal(input, window, &image->answer);
+    tell_refusal(input, &image->window, &image->answer);
     return REFUSED;
+}
+
+enum status load_image(const struct input *input, struct image *image)
+{
+    load_quietly(input, image);
+    return told(input, image);
+}
+
+/* Chooses a window and loads. What is loaded does not depend on the window, unless data lies outside of it: so a window for
+ * the cells that the text seems to have saves the pass over it that finds those it has. */
+static enum status load_alone(const struct input *input, const struct options *options, size_t unit, struct image *image)
+{
+    struct srec_span guess = guess_span(input);
+    enum status status;
+
+    if (!(options->given & OPTION_WINDOW) && guess.any && guess.highest - guess.lowest < MOST_CELLS / 2) {
+        status = open_window(options, guess, unit, input->name, &image->window);
+        if (status != DONE)
+            return status;
+        if (load_quietly(input, image) != ROW_OUTSIDE)
+            return told(input, image);
+        close_window(&image->window);
+    }
+    status = open_window(options, span_of(input), unit, input->name, &image->window);
+    return status == DONE ? load_image(input, image) : status;
 }
 
 enum status load_file(const char *path, const struct options *options, size_t unit, struct image *image)
@@ -104,45 +143,62 @@ enum status load_file(const char *path, const struct options *options, size_t un
     memset(image, 0, sizeof *image);
     status = open_input(path, options, &input);
     if (status == DONE)
-        status = open_window(options, span_of(&input), unit, input.name, &image->window);
-    if (status == DONE)
-        status = load_image(&input, image);
-    close_input(&input);
+        status = load_alone(&input, options, unit, image);
+    image->spare.bytes = input.bytes;
+    image->spare.length = input.length;
     return status;
 }
 
-enum status make_text(uint32_t format, const struct image *image, const char *name, struct product *product)
+static struct srec_written write_to(const struct product *product, uint32_t format, const struct image *image)
 {
     const struct window *window = &image->window;
     const struct srec_loaded *answer = &image->answer;
-    struct srec_written written =
-        srec_room(format, window->base, window->memory, window->length, window->marks, window->length, answer->header,
-                  answer->header_len, answer->has_entry, answer->entry);
 
-    memset(product, 0, sizeof *product);
-    if (written.reason == 0) {
-        product->bytes = malloc(written.length);
-        if (!product->bytes)
-            return trouble(name, "there is no memory for a text of %zu characters", written.length);
-        written = srec_write_as(format, window->base, window->memory, window->length, window->marks, window->length,
-                                answer->header, answer->header_len, answer->has_entry, answer->entry, product->bytes,
-                                written.length);
+    return srec_write_as(format, window->base, window->memory, window->length, window->marks, window->length,
+                         answer->header, answer->header_len, answer->has_entry, answer->entry, product->bytes,
+                         product->length);
+}
+
+/* Makes the room of a product larger. Its bytes are not needed, but realloc can keep their pages where they are. */
+static enum status enlarge(struct product *product, size_t length, const char *name)
+{
+    uint8_t *bytes = realloc(product->bytes, length);
+
+    if (!bytes)
+        return trouble(name, "there is no memory for a text of %zu characters", length);
+    product->bytes = bytes;
+    product->length = length;
+    return DONE;
+}
+
+enum status make_text(uint32_t format, struct image *image, const char *name, struct product *product)
+{
+    struct srec_written written;
+
+    /* The text that was read is often as long as the one that is written, and its pages are there already. */
+    *product = image->spare;
+    memset(&image->spare, 0, sizeof image->spare);
+    written = write_to(product, format, image);
+    if (written.reason == ROW_NO_ROOM) {
+        if (enlarge(product, written.place, name) != DONE)
+            return TROUBLE;
+        written = write_to(product, format, image);
     }
     if (written.reason != 0) {
-        tell_refused_write(name, window, &written);
+        tell_refused_write(name, &image->window, &written);
         return REFUSED;
     }
     product->length = written.length;
     return DONE;
 }
 
-enum status put_text(uint32_t format, const struct image *image, const char *name, const struct options *options)
+enum status put_text(uint32_t format, struct image *image, const char *name, const char *path)
 {
     struct product product;
     enum status status = make_text(format, image, name, &product);
 
     if (status == DONE)
-        status = put_product(options->out, &product);
+        status = put_product(path, &product);
     free(product.bytes);
     return status;
 }

@@ -23,6 +23,7 @@ struct image {
     enum kind kind; /* of the text */
     struct window window;
     struct srec_loaded answer; /* header and entry count; reason, record and place are of a refused load */
+    struct product spare;      /* room that is no longer needed, for the text that will be written */
 };
 
 struct srec_span span_of(const struct input *input);
@@ -37,18 +38,19 @@ enum status open_window(const struct options *options, struct srec_span span, si
 enum status make_window(uint32_t base, size_t length, const char *name, struct window *window);
 
 void close_window(struct window *window);
+void close_image(struct image *image);
 
 /* Loads an input into the window of an image, and tells a refusal. */
 enum status load_image(const struct input *input, struct image *image);
 
-/* Reads a file and loads it into a window of its own: its text is not kept. */
+/* Reads a file and loads it into a window of its own. */
 enum status load_file(const char *path, const struct options *options, size_t unit, struct image *image);
 
 /* Makes the canonical text of an image, and tells a refusal. The bytes are the caller's to free. */
-enum status make_text(uint32_t format, const struct image *image, const char *name, struct product *product);
+enum status make_text(uint32_t format, struct image *image, const char *name, struct product *product);
 
-/* The same, written to where -o says. */
-enum status put_text(uint32_t format, const struct image *image, const char *name, const struct options *options);
+/* The same, written to a file, or to standard output if the path is NULL. */
+enum status put_text(uint32_t format, struct image *image, const char *name, const char *path);
 
 /* Gives an image the entry of --entry, if there is one. */
 void set_entry(const struct options *options, struct image *image);

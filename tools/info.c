@@ -52,6 +52,6 @@ enum status run_info(const struct options *options)
         if (options->given & OPTION_MAP)
             print_map(&image.window);
     }
-    close_window(&image.window);
+    close_image(&image);
     return status;
 }

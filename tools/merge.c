@@ -53,11 +53,11 @@ enum status run_merge(const struct options *options)
     for (int i = 0; i < options->operand_count; i++)
         close_input(&inputs[i]);
     free(inputs);
-    close_window(&images[1].window);
+    close_image(&images[1]);
     if (status == DONE) {
         set_entry(options, &images[0]);
-        status = put_text(SREC_RECORDS, &images[0], "the merged image", options);
+        status = put_text(SREC_RECORDS, &images[0], "the merged image", options->out);
     }
-    close_window(&images[0].window);
+    close_image(&images[0]);
     return status;
 }

@@ -71,7 +71,7 @@ static enum status load_files(const struct options *options, const struct files 
         status = load_sheet(files, &patch);
     if (status == DONE)
         status = lay_over(image, &patch, files->sheet.name);
-    close_window(&patch.window);
+    close_image(&patch);
     return status;
 }
 
@@ -89,9 +89,9 @@ enum status run_patch(const struct options *options)
         status = load_files(options, &files, &image);
     if (status == DONE) {
         set_entry(options, &image);
-        status = put_text(SREC_RECORDS, &image, files.sheet.name, options);
+        status = put_text(SREC_RECORDS, &image, files.sheet.name, options->out);
     }
     close_files(&files);
-    close_window(&image.window);
+    close_image(&image);
     return status;
 }

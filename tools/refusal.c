@@ -6,18 +6,6 @@
 
 #include "place.h"
 
-/* The rows of docs/FORMAT.md that this file has more to say of. */
-enum {
-    ROW_CHECKSUM = 7,
-    ROW_PAST_WIDTH = 11,
-    ROW_OUTSIDE = 12,
-    ROW_TWICE = 13,
-    ROW_NO_END = 14,
-    ROW_NO_ENTRY = 18,
-    ROW_BLOCK = 22,
-    ROW_LAST_OF_BLOCK = 24
-};
-
 static int is_tape(const struct input *input)
 {
     return input->kind == KIND_TAPE_REPEAT || input->kind == KIND_TAPE_SUM;

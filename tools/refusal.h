@@ -6,6 +6,18 @@
 #include "input.h"
 #include "srec.h"
 
+/* The rows of docs/FORMAT.md that the program has more to say of, or does more about. */
+enum {
+    ROW_CHECKSUM = 7,
+    ROW_PAST_WIDTH = 11,
+    ROW_OUTSIDE = 12,
+    ROW_TWICE = 13,
+    ROW_NO_ROOM = 17,
+    ROW_NO_ENTRY = 18,
+    ROW_BLOCK = 22,
+    ROW_LAST_OF_BLOCK = 24
+};
+
 /* Tells a refused load of an input: its place, the line, a caret, and what helps to mend it. */
 void tell_refusal(const struct input *input, const struct window *window, const struct srec_loaded *answer);
 

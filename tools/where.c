@@ -18,7 +18,7 @@ static enum status tell_refused(const struct input *input, const struct options 
     status = open_window(options, span_of(input), 1, input->name, &image.window);
     if (status == DONE)
         status = load_image(input, &image);
-    close_window(&image.window);
+    close_image(&image);
     return status;
 }
 
