@@ -20,7 +20,7 @@ WARNINGS ?= -Wall -Wextra -pedantic
 RT ?= rt
 
 # The crates with the functions of include/srec.h.
-CRATES = capi whole_c survey_c merge_c chips_c symbol_c
+CRATES = capi whole_c survey_c merge_c chips_c symbol_c parts_c
 
 ARCHIVES = $(CRATES:%=target/staticlib/lib%.a)
 SOURCES = $(wildcard tools/*.c)
