@@ -12,7 +12,9 @@ use Rattle.window.specs.Plans.{isPresent, addressOf}
 use Rattle.tape.specs.declared.Edition.the-variants.{Repeat, Sum}
 use Rattle.formats.specs.declared.Format.{Format}
 use Rattle.formats.specs.declared.Format.the-variants.{Records, Tape}
+use Rattle.spans.specs.declared.Span.{Span}
 use Rattle.c_answers.specs.declared.Answer.{Answer}
+use Rattle.c_answers.specs.declared.Reach.{Reach}
 use Rattle.c_answers.specs.declared.Result.{Result}
 
 -- 1 for yes, 0 for no
@@ -42,6 +44,10 @@ bareOf refusal header entry = record { refusal = refusal; header = header; entry
 -- the answer of a write; its record number and its byte are always 0
 unfoldable pub resultOf : Written → Result
 resultOf w = record { reason = w .refusal .reason; place = w .refusal .place; length = w .length }
+
+-- every number of a span
+unfoldable pub reachOf : Span → Reach
+reachOf s = record { any = flagOf (s .any); lowest = s .lowest; highest = s .highest }
 
 -- 0 for no entry, any other number for the address
 unfoldable pub entryFor : ℕ → ℕ → Entry

@@ -1,5 +1,6 @@
 // What C is told and tells: answers as structs of numbers, and formats and entries by number. include/srec.h declares the structs.
 use formats::Format;
+use spans::Span;
 use tape::Edition;
 use window::Entry;
 use window::Header;
@@ -8,7 +9,7 @@ use window::Refusal;
 use window::Written;
 ghost use mathlib.Core.Path.{_≡_};
 ghost use Rattle.window.specs.Plans.{isPresent, addressOf};
-ghost use Rattle.c_answers.specs.Answers.{flagOf, answerOf, bareOf, resultOf, entryFor, formatFor};
+ghost use Rattle.c_answers.specs.Answers.{flagOf, answerOf, bareOf, resultOf, reachOf, entryFor, formatFor};
 
 // The answer of a load: `struct srec_loaded`.
 #[repr(C)]
@@ -23,6 +24,14 @@ pub struct Answer {
     pub entry: u32,
     pub length: usize,
     pub header: [u8; 252],
+}
+
+// The span of cells: `struct srec_span`.
+#[repr(C)]
+pub struct Reach {
+    pub any: u32,
+    pub lowest: usize,
+    pub highest: usize,
 }
 
 // The answer of a write: `struct srec_written`.
@@ -97,6 +106,17 @@ pub fn result_of(written: Written) -> Result
         reason: refusal.reason,
         place: refusal.place,
         length: written.length,
+    }
+}
+
+// A span as C is told it.
+pub fn reach_of(span: Span) -> Reach
+    ensures { λ r. ⌜ r ≡ reachOf span ⌝ }
+{
+    Reach {
+        any: span.any as u32,
+        lowest: span.lowest,
+        highest: span.highest,
     }
 }
 

@@ -1,18 +1,11 @@
 // The span of a text's cells, and the record that a cell's byte comes from, for C. include/srec.h declares them.
+use c_answers::Reach;
 ghost use mathlib.Core.Path.{_≡_};
 ghost use Rattle.text.specs.Formats.{plan};
 ghost use Rattle.formats.specs.Choices.{formatOf};
 ghost use Rattle.spans.specs.Spans.{spanOf, originOf};
-ghost use Rattle.c_answers.specs.Answers.{formatFor};
-ghost use Rattle.survey_c.specs.Told.{reachOf, sourceOf};
-
-// A span: `struct srec_span`.
-#[repr(C)]
-pub struct Reach {
-    pub any: u32,
-    pub lowest: usize,
-    pub highest: usize,
-}
+ghost use Rattle.c_answers.specs.Answers.{reachOf, formatFor};
+ghost use Rattle.survey_c.specs.Told.{sourceOf};
 
 // A record that addresses a cell: `struct srec_origin`.
 #[repr(C)]
@@ -29,11 +22,7 @@ pub extern "C" fn srec_span(format: u32, text: &[u8]) -> Reach
 {
     let choice = c_answers::format_for(format);
     let span = survey::span_of(choice, text);
-    Reach {
-        any: span.any as u32,
-        lowest: span.lowest,
-        highest: span.highest,
-    }
+    c_answers::reach_of(span)
 }
 
 // The first record of a text that addresses a cell.
