@@ -11,7 +11,7 @@ use Rattle.window.specs.declared.Header.{Header}
 use Rattle.window.specs.declared.Loaded.{Loaded}
 use Rattle.window.specs.Windows.{windowOf}
 use Rattle.window.specs.Images.{Image, blank}
-use Rattle.window.specs.Plans.{Summary, refusal, Plan, Outcome, placed}
+use Rattle.window.specs.Plans.{Summary, refusal, Plan, Outcome, placed, Accepts}
 use Rattle.window.specs.Plans.Outcome.{refused, accepted}
 use Rattle.window.proofs.PlanLaws.{Accepted as PlanAccepted, placed-inv}
 use Rattle.marks.specs.declared.Form.{Form}
@@ -32,7 +32,6 @@ use Rattle.formats.specs.Choices.{formatOf}
 use Rattle.formats.proofs.ChoiceLaws.{limitsOf, lawfulOf}
 use Rattle.checking.specs.declared.Checked.the-variants.{Refused, Accepted}
 use Rattle.checking.specs.Answers.{checkedAs}
-use Rattle.placing.specs.Stores.{Accepts}
 
 -- the outcome of a load, by what its caller lends
 abbrev pub outcome : Format → Form → ℕ → List ℕ → List ℕ → List ℕ → Outcome

@@ -5,9 +5,7 @@ use mathlib.Core.Bool.{false}
 use mathlib.Core.List.{List}
 use lib.ListN.{length}
 use Rattle.lists.specs.Lists.{over}
-use Rattle.window.specs.Images.{Image}
-use Rattle.window.specs.Plans.{Summary, Outcome, row12}
-use Rattle.window.specs.Plans.Outcome.{accepted}
+use Rattle.window.specs.Plans.{row12}
 use Rattle.text.specs.Scan.{Step}
 use Rattle.text.specs.Scan.Step.{refuse, skip, title, put, finish}
 
@@ -26,9 +24,3 @@ Placeable base size skip = Unit {0}
 Placeable base size (title h) = Unit {0}
 Placeable base size (put a ds) = row12 base size a (length ds) ≡ false
 Placeable base size (finish e) = Unit {0}
-
--- an outcome that is no refusal
-pub record Accepts (o : Outcome) : Type 0 where
-  pub sum : Summary
-  pub img : Image
-  pub is : o ≡ accepted sum img

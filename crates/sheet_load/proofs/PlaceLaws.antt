@@ -8,7 +8,7 @@ use lib.ListN.{length, replicate, length-replicate}
 use Rattle.window.specs.declared.Refusal.{Refusal}
 use Rattle.window.specs.Windows.{Window, row1, windowOf}
 use Rattle.window.specs.Images.{blank}
-use Rattle.window.specs.Plans.{refusal, Outcome, placed}
+use Rattle.window.specs.Plans.{refusal, Outcome, placed, Accepts}
 use Rattle.window.specs.Plans.Outcome.{refused, accepted}
 use Rattle.window.specs.declared.Loaded.{Loaded}
 use Rattle.window.proofs.RowLaws.{allowed-inv}
@@ -22,7 +22,6 @@ use Rattle.sheet_check.specs.declared.Checked.{Checked}
 use Rattle.sheet_check.specs.declared.Checked.the-variants.{Refused, Accepted}
 use Rattle.sheets.specs.Sheets.{summary, sheetPlan, tableOutcome, withBlock, sheetOutcome}
 use Rattle.sheet_check.specs.Checks.{Told}
-use Rattle.sheets.specs.Sheets.{Accepts}
 
 -- what a load with this outcome answers and leaves
 abbrev pub Answered : List ℕ → List ℕ → Outcome → Loaded → List ℕ → List ℕ → Type 0

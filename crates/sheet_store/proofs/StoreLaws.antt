@@ -10,7 +10,7 @@ use Rattle.lists.proofs.TestLaws.{by-test}
 use Rattle.window.specs.declared.Refusal.{Refusal}
 use Rattle.lists.specs.Lists.{over}
 use Rattle.window.specs.Images.{Image, blank, overlaid}
-use Rattle.window.specs.Plans.{Outcome, row12, row13, filled, placed}
+use Rattle.window.specs.Plans.{Outcome, row12, row13, filled, placed, Accepts}
 use Rattle.window.specs.Plans.Plan.{store}
 use Rattle.window.specs.Plans.Outcome.{refused, accepted}
 use Rattle.window.proofs.FillLaws.{inside}
@@ -23,7 +23,6 @@ use Rattle.sheet_fields.specs.declared.Pair.the-variants.{End, Bad, Store}
 use Rattle.sheet_fields.specs.Fields.{fieldsFrom}
 use Rattle.sheets.specs.Sheets.{planned}
 use Rattle.sheet_fields.specs.Pairs.{pairAt}
-use Rattle.sheets.specs.Sheets.{Accepts}
 use Rattle.sheets.proofs.TurnLaws.{bytesAt}
 use Rattle.sheets.proofs.WalkLaws.{wholeOf, Walk, walk-start, walk-end, walk-bad, store-within, walk-store, walk-put}
 

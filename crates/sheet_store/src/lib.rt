@@ -6,10 +6,10 @@ ghost use Prim.Native.Nat.{_-_};
 ghost use lib.ListN.{length};
 ghost use Rattle.lists.specs.Lists.{over};
 ghost use Rattle.window.specs.Images.{blank};
-ghost use Rattle.window.specs.Plans.{row12, placed};
+ghost use Rattle.window.specs.Plans.{row12, placed, Accepts};
 ghost use Rattle.text.specs.Load.{memoryAfter};
 ghost use Rattle.symbol_table.specs.Symbols.{symbolsIn};
-ghost use Rattle.sheets.specs.Sheets.{Accepts, sheetPlan};
+ghost use Rattle.sheets.specs.Sheets.{sheetPlan};
 
 // Stores bytes that row 12 lets pass: the cells from the address on, in the middle of memory, are lent.
 fn store_bytes(base: usize, memory: &mut [u8], address: usize, bytes: &[u8])

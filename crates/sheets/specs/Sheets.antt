@@ -1,5 +1,4 @@
 -- What a patch sheet asks of a window: rows 25, 26 and 27, and stores for the placing that has rows 12 and 13 (Req 13).
-use mathlib.Core.Path.{_≡_}
 use Prim.Native.Nat.{ℕ, suc, _+_}
 use mathlib.Core.Bool.{cond, not}
 use mathlib.Core.List.{List, [], _∷_}
@@ -7,10 +6,10 @@ use lib.Dec.{eqb}
 use lib.ListN.{length}
 use Rattle.window.specs.declared.Entry.the-variants.{Absent}
 use Rattle.window.specs.Windows.{Window}
-use Rattle.window.specs.Images.{Image, blank}
+use Rattle.window.specs.Images.{blank}
 use Rattle.window.specs.Plans.{Summary, refusal, Plan, Outcome, placed}
 use Rattle.window.specs.Plans.Plan.{store, stop, done}
-use Rattle.window.specs.Plans.Outcome.{refused, accepted}
+use Rattle.window.specs.Plans.Outcome.{refused}
 use Rattle.symbol_table.specs.Symbols.{Symbol, symbolsIn}
 use Rattle.operands.specs.declared.Worth.{Worth}
 use Rattle.operands.specs.Values.{worthOf}
@@ -55,9 +54,3 @@ withBlock W text sheet (Table from to) = tableOutcome W (stretch text from to) s
 -- the outcome: row 1, the block's rows, then the sheet's
 unfoldable pub sheetOutcome : Window → List ℕ → List ℕ → Outcome
 sheetOutcome W text sheet = withBlock W text sheet (blockOf text)
-
--- an outcome that is no refusal
-pub record Accepts (o : Outcome) : Type 0 where
-  pub sum : Summary
-  pub img : Image
-  pub is : o ≡ accepted sum img

@@ -10,7 +10,7 @@ use Rattle.window.specs.declared.Refusal.{Refusal}
 use Rattle.window.specs.declared.Entry.{Entry}
 use Rattle.lists.specs.Lists.{over}
 use Rattle.window.specs.Images.{Image, blank, overlaid}
-use Rattle.window.specs.Plans.{Plan, Outcome, row12, row13, filled, placed}
+use Rattle.window.specs.Plans.{Plan, Outcome, row12, row13, filled, placed, Accepts}
 use Rattle.window.specs.Plans.Plan.{store}
 use Rattle.window.specs.Plans.Outcome.{refused, accepted}
 use Rattle.window.proofs.ViewLaws.{length-overlaid}
@@ -31,7 +31,7 @@ use Rattle.formats.specs.declared.Format.the-variants.{Records, Tape}
 use Rattle.formats.specs.Choices.{formatOf}
 use Rattle.formats.proofs.ChoiceLaws.{limitsOf, lawfulOf}
 use Rattle.line_counts.specs.Counts.{sizeOf, LongAsCounted}
-use Rattle.placing.specs.Stores.{storedBy, Placeable, Accepts}
+use Rattle.placing.specs.Stores.{storedBy, Placeable}
 use Rattle.placing.proofs.StoreLaws.{Readable, readable}
 use Rattle.placing.proofs.LineLaws.{line-readable}
 

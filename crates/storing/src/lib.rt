@@ -5,11 +5,11 @@ ghost use mathlib.Core.Path.{_≡_};
 ghost use lib.ListN.{length};
 ghost use Rattle.hex.specs.Tables.{digitTable};
 ghost use Rattle.window.specs.Images.{blank};
-ghost use Rattle.window.specs.Plans.{placed};
+ghost use Rattle.window.specs.Plans.{placed, Accepts};
 ghost use Rattle.text.specs.Formats.{plan};
 ghost use Rattle.text.specs.Load.{memoryAfter};
 ghost use Rattle.formats.specs.Choices.{formatOf};
-ghost use Rattle.placing.specs.Stores.{storedBy, Placeable, Accepts};
+ghost use Rattle.placing.specs.Stores.{storedBy, Placeable};
 
 // Stores the data of a line that was checked, in the format that is told.
 fn place(format: Format, table: &[u32; 256], base: usize, memory: &mut [u8], chars: &[u8])
