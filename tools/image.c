@@ -38,17 +38,19 @@ enum status make_window(uint32_t base, size_t length, const char *name, struct w
     /* Memory that is never written takes no room in most systems, so memory is not cleared by hand. */
     window->memory = calloc(size, 1);
     window->marks = malloc(size);
-    if (!window->memory || !window->marks)
-        return trouble(name, "there is no memory for a window of %zu cells", length);
+    if (!window->memory || !window->marks) {
+        trouble(name, "there is no memory for a window of %zu cells", length);
+        return TROUBLE;
+    }
     return DONE;
 }
 
-static enum status too_wide(uint64_t base, uint64_t length, const char *name)
+static void tell_too_wide(uint64_t base, uint64_t length, const char *name)
 {
-    return trouble(name,
-                   "the cells lie from %08" PRIX64 " to %08" PRIX64 " and take a window of %" PRIu64
-                   "; one of more than %" PRIu64 " must be asked for, with --window %" PRIX64 ":%" PRIX64,
-                   base, base + length - 1, length, MOST_CELLS, base, length);
+    trouble(name,
+            "the cells lie from %08" PRIX64 " to %08" PRIX64 " and take a window of %" PRIu64 "; one of more than %" PRIu64
+            " must be asked for, with --window %" PRIX64 ":%" PRIX64,
+            base, base + length - 1, length, MOST_CELLS, base, length);
 }
 
 enum status open_window(const struct options *options, struct srec_span span, size_t unit, const char *name,
@@ -67,8 +69,10 @@ enum status open_window(const struct options *options, struct srec_span span, si
         base = span.lowest - span.lowest % unit;
         length = highest - base + 1;
         length += (unit - length % unit) % unit;
-        if (length > MOST_CELLS)
-            return too_wide(base, length, name);
+        if (length > MOST_CELLS) {
+            tell_too_wide(base, length, name);
+            return TROUBLE;
+        }
     }
     return make_window((uint32_t)base, (size_t)length, name, window);
 }
@@ -123,6 +127,7 @@ static enum status load_alone(const struct input *input, const struct options *o
     struct srec_span guess = guess_span(input);
     enum status status;
 
+    /* Well below the limit, so that the guess never reaches it. */
     if (!(options->given & OPTION_WINDOW) && guess.any && guess.highest - guess.lowest < MOST_CELLS / 2) {
         status = open_window(options, guess, unit, input->name, &image->window);
         if (status != DONE)

@@ -81,14 +81,13 @@ void print_map(const struct window *window)
     struct run last = {0, 0};
     struct scale scale;
     uint64_t lowest;
-    uint64_t highest;
+    uint64_t highest = 0;
 
     if (!next_run(window, &run))
         return;
     lowest = (uint64_t)window->base + run.from;
     while (next_run(window, &last))
-        continue;
-    highest = (uint64_t)window->base + last.to - 1;
+        highest = (uint64_t)window->base + last.to - 1;
     scale = choose_scale(lowest, highest);
     printf("map: %" PRIu64 " cell%s a sign: # all, + some, . none\n", scale.cells, scale.cells == 1 ? "" : "s");
     for (uint64_t at = lowest - lowest % (scale.signs * scale.cells); at <= highest; at += scale.signs * scale.cells)

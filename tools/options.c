@@ -135,6 +135,8 @@ static enum status take_window(char *value, struct options *options)
 static enum status take(const struct option *option, char *value, struct options *options)
 {
     options->given |= option->bit;
+    if (!value)
+        return DONE;
     switch (option->bit) {
     case OPTION_FROM:
         return take_from(value, options);

@@ -88,23 +88,25 @@ static enum status fill(int fd, const char *name, const struct stat *old, const 
     return status;
 }
 
-/* Opens a file of a new name beside the target. Returns its descriptor, or -1 with errno. */
-static int open_beside(struct draft *draft)
+/* Opens a file of a new name beside the target. Returns its descriptor, or -1 after trouble. */
+static int open_beside(struct draft *draft, const char *path)
 {
     static const char ending[] = ".XXXXXX";
     size_t length = strlen(draft->target);
-    int fd;
+    char *name = malloc(length + sizeof ending);
+    int fd = -1;
 
-    draft->temporary = malloc(length + sizeof ending);
-    if (!draft->temporary)
-        return -1;
-    memcpy(draft->temporary, draft->target, length);
-    memcpy(draft->temporary + length, ending, sizeof ending);
-    fd = mkstemp(draft->temporary);
-    if (fd < 0) {
-        free(draft->temporary);
-        draft->temporary = NULL;
+    if (name) {
+        memcpy(name, draft->target, length);
+        memcpy(name + length, ending, sizeof ending);
+        fd = mkstemp(name);
     }
+    if (fd < 0) {
+        system_trouble(path, errno);
+        free(name);
+        return -1;
+    }
+    draft->temporary = name;
     return fd;
 }
 
@@ -136,9 +138,9 @@ static enum status begin_draft(const char *path, const struct product *product, 
     draft->target = target_of(path, exists);
     if (!draft->target)
         return system_trouble(path, errno);
-    fd = open_beside(draft);
+    fd = open_beside(draft, path);
     if (fd < 0)
-        return system_trouble(path, errno);
+        return TROUBLE;
     return fill(fd, path, exists ? &old : NULL, product);
 }
 
@@ -156,8 +158,8 @@ static enum status end_draft(struct draft *draft, const char *path, enum status 
     return status;
 }
 
-/* Holds back, or lets through again, what would end the program with a temporary file left behind. */
-static void hold_signals(int how)
+/* Holds back what would end the program with a temporary file left behind. *before is to be set again. */
+static void hold_signals(sigset_t *before)
 {
     sigset_t signals;
 
@@ -165,23 +167,24 @@ static void hold_signals(int how)
     sigaddset(&signals, SIGHUP);
     sigaddset(&signals, SIGINT);
     sigaddset(&signals, SIGTERM);
-    sigprocmask(how, &signals, NULL);
+    sigprocmask(SIG_BLOCK, &signals, before);
 }
 
 enum status put_products(const char *const *paths, const struct product *products, size_t count)
 {
     struct draft drafts[MOST_DRAFTS] = {{NULL, NULL}};
     enum status status = DONE;
+    sigset_t before;
     size_t begun = 0;
 
-    hold_signals(SIG_BLOCK);
+    hold_signals(&before);
     while (status == DONE && begun < count && begun < MOST_DRAFTS) {
         status = begin_draft(paths[begun], &products[begun], &drafts[begun]);
         begun++;
     }
     for (size_t i = 0; i < begun; i++)
         status = end_draft(&drafts[i], paths[i], status);
-    hold_signals(SIG_UNBLOCK);
+    sigprocmask(SIG_SETMASK, &before, NULL);
     return status;
 }
 

@@ -27,9 +27,9 @@ struct spot spot_of(const struct input *input, size_t place)
     return spot;
 }
 
-static char shown(uint8_t byte)
+static int shown(uint8_t byte)
 {
-    return byte >= 0x20 && byte < 0x7F ? (char)byte : '?';
+    return byte >= 0x20 && byte < 0x7F ? byte : '?';
 }
 
 static void show_part(const uint8_t *bytes, size_t length, int cut_before, int cut_behind)

@@ -31,7 +31,8 @@ static size_t end_of(const struct input *input)
     return end;
 }
 
-size_t place_of(const struct input *input, const struct srec_loaded *answer)
+/* The place of a refused load as an index into the whole input. */
+static size_t place_of(const struct input *input, const struct srec_loaded *answer)
 {
     size_t place = answer->place;
 
@@ -94,14 +95,22 @@ static void tell_mark(const struct input *input)
     }
 }
 
+static void tell_place(const struct input *input, size_t place, uint32_t row)
+{
+    struct spot spot = spot_of(input, place);
+
+    fprintf(stderr, "%s:%zu:%zu: %s (refusal %" PRIu32 ")\n", input->name, spot.line, spot.column, srec_reason(row),
+            row);
+    show_spot(input, place);
+    if (place == 0)
+        tell_mark(input);
+}
+
 void tell_refusal(const struct input *input, const struct window *window, const struct srec_loaded *answer)
 {
     size_t place = place_of(input, answer);
-    struct spot spot = spot_of(input, place);
 
-    fprintf(stderr, "%s:%zu:%zu: %s (refusal %" PRIu32 ")\n", input->name, spot.line, spot.column,
-            srec_reason(answer->reason), answer->reason);
-    show_spot(input, place);
+    tell_place(input, place, answer->reason);
     if (answer->reason == ROW_CHECKSUM && is_tape(input))
         tell_edition(input, place);
     else if (answer->reason == ROW_CHECKSUM)
@@ -110,8 +119,6 @@ void tell_refusal(const struct input *input, const struct window *window, const 
         tell_outside(input, window, place);
     else if (answer->reason == ROW_TWICE)
         tell_first(input, place);
-    else if (place == 0)
-        tell_mark(input);
 }
 
 void tell_refused_sheet(const struct input *symbols, const struct input *sheet, const struct srec_loaded *answer)
@@ -119,7 +126,7 @@ void tell_refused_sheet(const struct input *symbols, const struct input *sheet, 
     size_t text = answer->place + 3;
 
     if (is_of_block(answer->reason)) {
-        tell_refusal(symbols, NULL, answer);
+        tell_place(symbols, place_of(symbols, answer), answer->reason);
         return;
     }
     fprintf(stderr, "%s: field %zu, at byte %zu: %s (refusal %" PRIu32 ")\n", sheet->name, answer->record,
