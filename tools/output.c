@@ -60,20 +60,25 @@ static enum status put_device(const char *path, const struct product *product)
     return status;
 }
 
-/* The permissions and, as far as that is allowed, the owner of the file that will be replaced; else those of a new file. */
+/* Gives a file the permissions and the owner of the one that it will replace, or those of a new file. */
 static int set_mode(int fd, const struct stat *old)
 {
-    mode_t mask;
-
     if (!old) {
-        mask = umask(0);
+        mode_t mask = umask(0);
+
         umask(mask);
         return fchmod(fd, 0666 & ~mask);
     }
-    /* A file that cannot be given away is still a good copy, with permissions for its new owner. */
-    if (fchown(fd, old->st_uid, old->st_gid) != 0)
-        errno = 0;
+    /* Only a privileged user can give a file away; else it becomes the user's own. */
+    if (fchown(fd, old->st_uid, old->st_gid) != 0 && errno != EPERM)
+        return -1;
     return fchmod(fd, old->st_mode & 0777);
+}
+
+/* Not every file system can do it. */
+static int is_on_disk(int fd)
+{
+    return fsync(fd) == 0 || errno == EINVAL;
 }
 
 /* Fills an open temporary file and closes it. */
@@ -81,7 +86,7 @@ static enum status fill(int fd, const char *name, const struct stat *old, const 
 {
     enum status status = put_bytes(fd, name, product);
 
-    if (status == DONE && (set_mode(fd, old) != 0 || fsync(fd) != 0))
+    if (status == DONE && (set_mode(fd, old) != 0 || !is_on_disk(fd)))
         status = system_trouble(name, errno);
     if (close(fd) != 0 && status == DONE)
         status = system_trouble(name, errno);

@@ -45,8 +45,8 @@ static size_t place_of(const struct input *input, const struct srec_loaded *answ
 static void tell_edition(const struct input *input, size_t place)
 {
     if (input->length - place >= 3 && memcmp(input->bytes + place, ";00", 3) == 0)
-        fprintf(stderr, "  it is the last line, which is checked by the tape's edition; --edition %s is the other one\n",
-                input->kind == KIND_TAPE_REPEAT ? "sum" : "repeat");
+        fprintf(stderr, "  it is the last line, which is checked by the tape's edition: the other one is %s\n",
+                input->kind == KIND_TAPE_REPEAT ? "--edition sum (--from tape-sum)" : "--edition repeat (--from tape)");
 }
 
 /* The first cell of a record that an earlier one gave. All records before it are good ones. */
