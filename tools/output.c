@@ -69,7 +69,7 @@ static int set_mode(int fd, const struct stat *old)
         umask(mask);
         return fchmod(fd, 0666 & ~mask);
     }
-    /* Only a privileged user can give a file away; else it becomes the user's own. */
+    /* Only a privileged user can give a file away; any other one keeps it. */
     if (fchown(fd, old->st_uid, old->st_gid) != 0 && errno != EPERM)
         return -1;
     return fchmod(fd, old->st_mode & 0777);
@@ -136,6 +136,9 @@ static enum status begin_draft(const char *path, const struct product *product, 
     int exists = stat(path, &old) == 0;
     int fd;
 
+    /* A link that leads nowhere is not replaced either. */
+    if (!exists && lstat(path, &old) == 0)
+        return system_trouble(path, ENOENT);
     if (exists && !S_ISREG(old.st_mode))
         return put_device(path, product);
     if (exists && access(path, W_OK) != 0)
