@@ -81,7 +81,7 @@ static int ends_line(uint8_t byte)
     return byte == '\r' || byte == '\n';
 }
 
-/* A tape may begin with NUL and XOFF, which are no characters of a record in any format. */
+/* A tape may begin with NUL and XOFF. Ahead of anything else they are refused, whatever the format. */
 static enum kind kind_of(const uint8_t *bytes, size_t length)
 {
     size_t i = 0;
