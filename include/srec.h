@@ -1,7 +1,7 @@
 /* srec.h: Motorola S-records and MOS Technology paper tapes into lent memory, and an image back as one canonical S-record
  * text or one canonical tape; patches over a base, images over chips, and patch sheets by symbol names.
  *
- * Link with libsrec.a (`make` writes target/libsrec.a). C99 or later, or C++. No heap, no global state, nothing is printed.
+ * Link with libsrec.a (`make` writes target/libsrec.a), on x86-64. C99 or later, or C++. No heap, no global state, nothing is printed.
  *
  * A window is a base address and two buffers of one length: memory[i] is the cell at address base + i, and marks[i] is
  * 1 if that cell was addressed by the text, else 0.
@@ -11,7 +11,8 @@
  * precondition: every function ends and does nothing undefined, whatever buffers and numbers hold.
  *
  * A load or a write is refused by the first row of docs/FORMAT.md that applies; srec_reason below has the words of each.
- * A refused load leaves memory unchanged and every mark 0; a refused write leaves out unchanged.
+ * A refused load leaves memory unchanged (but for a load in parts: see there) and every mark 0; a refused write leaves out
+ * unchanged.
  *
  * Example: how many cells of a 32 KiB ROM at address 8000 hex the text on standard input fills.
  *
@@ -47,21 +48,30 @@ extern "C" {
 
 /* ---- the whole answer */
 
-/* The formats. Any other number is taken for SREC_TAPE_SUM. */
+/* The formats. Those of tapes have the numbers of their editions, SREC_REPEAT and SREC_SUM below; any other number is taken
+ * for S-records. */
 enum {
-    SREC_RECORDS = 0,     /* Motorola S-records */
-    SREC_TAPE_REPEAT = 1, /* a paper tape whose last line has its number again for a check */
-    SREC_TAPE_SUM = 2     /* a paper tape whose last line has the sum of its bytes, as the KIM-1 manual asks for */
+    SREC_TAPE_REPEAT = 0, /* a paper tape whose last line has its number again for a check */
+    SREC_TAPE_SUM = 1,    /* a paper tape whose last line has the sum of its bytes, as the KIM-1 manual asks for */
+    SREC_RECORDS = 2      /* Motorola S-records */
 };
 
-/* The answer of a load, and of a merge, a deal and a collect, which leave what they do not speak of 0. */
+/* The answer of a load, and of a merge, a deal and a collect, whose other fields are 0. Where nothing is refused `want`,
+ * `record` and `place` are 0; after a refusal all that stands behind them is 0.
+ *
+ *   record   of a load the record, line or field that is refused, from 1; for rows 14 and 20, and for a block without its
+ *            last `$$`, how many were read; 0 for row 1, and of a merge, a deal and a collect
+ *   place    of a load the index of its first character, for row 5 of the character that is no digit; for row 14, and for a
+ *            block without its last `$$`, the text's length; for row 20 how many characters stood before the part; of a
+ *            merge, a deal and a collect, for row 16, the index of the mark; otherwise 0
+ */
 struct srec_loaded {
     uint32_t reason;     /* the row that refuses, 0 for accepted */
     uint32_t want;       /* row 7 of S-records: the checksum that would be right; otherwise 0 */
-    size_t record;       /* of a refusal: the record, from 1; 0 for row 1; how many were read for row 14 */
-    size_t place;        /* of a refusal: the index of a character of the text */
-    size_t records;      /* data records; 0 after a refusal */
-    size_t cells;        /* cells loaded; 0 after a refusal */
+    size_t record;       /* see above */
+    size_t place;        /* see above */
+    size_t records;      /* data records */
+    size_t cells;        /* cells loaded */
     uint32_t has_entry;  /* 1 if there is an entry, else 0 */
     uint32_t entry;      /* the entry, 0 if there is none */
     size_t header_len;   /* how many bytes the header has, at most 252 */
@@ -106,17 +116,27 @@ struct srec_written srec_room(uint32_t format, uint32_t base, const uint8_t *mem
                               uint32_t has_entry, uint32_t entry);
 
 /* The lowest and the highest address that the data records of a text address, up to the first record that a row other than
- * 12 and 13 refuses. In an allowed window that covers them row 12 is never given. */
+ * 12 and 13 refuses. In a window that covers them row 12 is never given; if there are none, a window of no cells will do.
+ * Of a text with a symbol block hand in what stands from srec_behind on.
+ *
+ *     struct srec_span span = srec_span(SREC_RECORDS, text, length);
+ *     size_t cells = span.any ? span.highest - span.lowest + 1 : 0;
+ *     uint8_t *memory = calloc(cells, 1), *marks = malloc(cells);
+ *     got = srec_load_as(SREC_RECORDS, text, length, span.lowest, memory, cells, marks, cells);
+ *
+ * In C++ the struct is written `struct srec_span`, since the function has the same name. */
 struct srec_span srec_span(uint32_t format, const uint8_t *text, size_t text_len);
 
-/* The first record of a text, up to the first that a row other than 12 and 13 refuses, that addresses a cell. */
+/* The first record of a text, up to the first that a row other than 12 and 13 refuses, that addresses the cell at an
+ * address. After a refusal 13 at record n one of the cells of that record has an origin before n. */
 struct srec_origin srec_where(uint32_t format, const uint8_t *text, size_t text_len, uint32_t address);
 
 /* ---- patches, chips, symbols */
 
 /* Lays a patch into a base, both windows from the same base address and of one length: marked cells of the patch win, all
  * other bytes and marks stay, and so do header and entry unless the patch has its own. The answer has the merged header
- * and entry, or the row 1, 15 or 16, with the index of the bad mark as its place. */
+ * and entry, or row 1, 15 or 16, tried in this order, the marks of the base before those of the patch. A refused merge
+ * changes nothing. */
 struct srec_loaded srec_merge(uint32_t base, uint8_t *memory, size_t memory_len, uint8_t *marks, size_t marks_len,
                               const uint8_t *header, size_t header_len, uint32_t has_entry, uint32_t entry,
                               const uint8_t *patch_memory, size_t patch_memory_len, const uint8_t *patch_marks,
@@ -124,7 +144,8 @@ struct srec_loaded srec_merge(uint32_t base, uint8_t *memory, size_t memory_len,
                               uint32_t patch_has_entry, uint32_t patch_entry);
 
 /* Deals a window over 2 or 4 chips: the cell at address A goes to chip A modulo chips, at A / chips. Each chip's buffers
- * have memory_len / chips bytes; those of the chips that there are not have length 0. Refused by 21, 1 or 16. */
+ * have memory_len / chips bytes, and those of chips that are not used length 0. Refused by 21, 1 or 16, tried in this order,
+ * and then nothing is changed; otherwise every mark of the chips is written, and the bytes of unmarked cells stay. */
 struct srec_loaded srec_deal(size_t chips, uint32_t base, const uint8_t *memory, size_t memory_len,
                              const uint8_t *marks, size_t marks_len, uint8_t *memory0, size_t memory0_len,
                              uint8_t *marks0, size_t marks0_len, uint8_t *memory1, size_t memory1_len, uint8_t *marks1,
@@ -132,7 +153,8 @@ struct srec_loaded srec_deal(size_t chips, uint32_t base, const uint8_t *memory,
                              size_t marks2_len, uint8_t *memory3, size_t memory3_len, uint8_t *marks3,
                              size_t marks3_len);
 
-/* Collects 2 or 4 chips into a window. Refused by 21, 1 or 16. */
+/* Collects 2 or 4 chips into a window, as srec_deal deals. The place of row 16 is an index in the first chip that has a bad
+ * mark; which one is not told. */
 struct srec_loaded srec_collect(size_t chips, uint32_t base, uint8_t *memory, size_t memory_len, uint8_t *marks,
                                 size_t marks_len, const uint8_t *memory0, size_t memory0_len, const uint8_t *marks0,
                                 size_t marks0_len, const uint8_t *memory1, size_t memory1_len, const uint8_t *marks1,
@@ -141,7 +163,7 @@ struct srec_loaded srec_collect(size_t chips, uint32_t base, uint8_t *memory, si
                                 size_t marks3_len);
 
 /* Loads the S-records that stand behind the symbol block at a text's start. Rows 22 to 24 are those of the block; record and
- * place of the others count from behind the block's last line. */
+ * place of the others count from srec_behind on, right behind the block's last `$$`, whose line end has the place 0. */
 struct srec_loaded srec_load_behind(const uint8_t *text, size_t text_len, uint32_t base, uint8_t *memory,
                                     size_t memory_len, uint8_t *marks, size_t marks_len);
 
@@ -152,17 +174,22 @@ struct srec_loaded srec_load_sheet(const uint8_t *text, size_t text_len, const u
                                    uint32_t base, uint8_t *memory, size_t memory_len, uint8_t *marks,
                                    size_t marks_len);
 
-/* As srec_span, for the bytes of a patch sheet, up to the first field that one of rows 22 to 27 refuses. */
+/* Where the S-records begin behind the symbol block at a text's start; the text's length, if the block is refused. */
+size_t srec_behind(const uint8_t *text, size_t text_len);
+
+/* As srec_span, for the pairs of a patch sheet before the first field that one of rows 25 to 27 refuses; no cell, if the
+ * block is refused. */
 struct srec_span srec_span_sheet(const uint8_t *text, size_t text_len, const uint8_t *sheet, size_t sheet_len);
 
 /* ---- S-records in parts, as they arrive */
 
-/* The state of a load in parts between two calls: what one call gives back is handed to the next as it is. A caller may read
- * `reason`, 0 as long as nothing is refused, and `total`. No content of it makes a call do anything undefined. */
+/* The state of a load in parts between two calls: what one call gives back is handed to the next as it is. While `reason` is
+ * 0 a caller may read total, number, records and cells; after a refusal reason, want, record and place. All else is for the
+ * calls alone, and may differ between two equal loads, as may the padding. No content makes a call do anything undefined. */
 struct srec_parts {
-    uint32_t reason;    /* of a refused load: the row, and nothing else counts but want, record and place */
+    uint32_t reason;    /* of a refused load the row, otherwise 0 */
     uint8_t want;       /* as in srec_loaded */
-    uint8_t ended;      /* 1 behind the terminator */
+    uint8_t ended;      /* not 0 behind the terminator */
     uint32_t has_entry; /* the terminator's entry */
     uint32_t entry;
     size_t record; /* as in srec_loaded */
@@ -175,22 +202,31 @@ struct srec_parts {
     size_t cells;   /* cells so far */
     size_t head;    /* the header's length */
     size_t held;    /* how many characters of the record that is not complete are held */
-    uint8_t header[252];
-    uint8_t line[516];
+    uint8_t header[252]; /* the header's bytes */
+    uint8_t line[516];   /* the held characters */
+};
+
+/* What ended a load: its answer, and the state behind it. */
+struct srec_ended {
+    struct srec_loaded loaded;
+    struct srec_parts parts;
 };
 
 /* Begins a load in parts: row 1, and all marks are cleared. */
 struct srec_parts srec_begin(uint32_t base, const uint8_t *memory, size_t memory_len, uint8_t *marks, size_t marks_len);
 
-/* Takes one more part of the text, of any length, with the same window. A record is stored as soon as its line end has
- * arrived, so after a refusal memory keeps the records before the refused one; every mark is then 0. Row 20 refuses a part
- * that would bring the text past 4,294,967,295 characters. */
+/* Takes one more part of the text, of any length, with the same window: row 1 refuses another length of memory. A record is
+ * stored as soon as its line end has arrived, so after a refusal memory keeps the records before the refused one; every mark
+ * is then 0. Row 20 refuses a part that would bring the text past 4,294,967,295 characters. Behind a refusal a call changes
+ * nothing. */
 struct srec_parts srec_feed(struct srec_parts parts, const uint8_t *part, size_t part_len, uint32_t base, uint8_t *memory,
                             size_t memory_len, uint8_t *marks, size_t marks_len);
 
-/* Ends a load in parts. The answer is that of srec_load_as for the whole text, wherever it was cut. */
-struct srec_loaded srec_end(struct srec_parts parts, uint32_t base, uint8_t *memory, size_t memory_len, uint8_t *marks,
-                            size_t marks_len);
+/* Ends a load in parts. If states, memory and marks came back as they were given out and row 20 was not given, the answer is
+ * that of srec_load_as(SREC_RECORDS, ..) for the whole text, wherever it was cut. Further calls go on from the state that is
+ * given back: a refused end stays refused. */
+struct srec_ended srec_end(struct srec_parts parts, uint32_t base, uint8_t *memory, size_t memory_len, uint8_t *marks,
+                           size_t marks_len);
 
 /* ---- the row alone */
 
@@ -256,7 +292,7 @@ static inline const char *srec_reason(unsigned number)
 {
     static const char *const words[] = {
         "accepted",
-        "marks and memory differ in length, or the window passes 2^32",
+        "the lengths of the buffers do not agree, or the window passes 2^32",
         "a record stands after the terminator, or a line after the tape's last",
         "the record has more than 514 characters, or the tape's line more than 521",
         "the record is no S-record of a known type, or no line of a tape",

@@ -5,6 +5,7 @@
 #include <string.h>
 
 #include "guess.h"
+#include "pages.h"
 #include "refusal.h"
 
 /* How many cells a window has at most that was not asked for: the load writes a mark for each, so a text of two records
@@ -42,6 +43,8 @@ enum status make_window(uint32_t base, size_t length, const char *name, struct w
         trouble(name, "there is no memory for a window of %zu cells", length);
         return TROUBLE;
     }
+    use_large_pages(window->memory, size);
+    use_large_pages(window->marks, size);
     return DONE;
 }
 
@@ -171,6 +174,7 @@ static enum status enlarge(struct product *product, size_t length, const char *n
 
     if (!bytes)
         return trouble(name, "there is no memory for a text of %zu characters", length);
+    use_large_pages(bytes, length);
     product->bytes = bytes;
     product->length = length;
     return DONE;

@@ -7,6 +7,8 @@
 #include <sys/stat.h>
 #include <unistd.h>
 
+#include "pages.h"
+
 enum { FIRST_ROOM = 65536 };
 
 /* How many bytes a descriptor still has, and one more so that the end is seen without more room; a guess where the system
@@ -47,6 +49,7 @@ static int read_all(int fd, struct input *input)
     input->bytes = malloc(room);
     if (!input->bytes)
         return ENOMEM;
+    use_large_pages(input->bytes, room);
     for (;;) {
         int error = input->length == room ? grow(input, &room) : 0;
         ssize_t got;
@@ -95,27 +98,6 @@ static enum kind kind_of(const uint8_t *bytes, size_t length)
     return KIND_RECORDS;
 }
 
-/* The index behind the first line but one or later that is a bare `$$`; the length if there is none, and then the load
- * refuses the block. */
-static size_t behind_block(const uint8_t *bytes, size_t length)
-{
-    size_t lines = 0;
-    size_t i = 0;
-
-    while (i < length) {
-        size_t begin = i;
-
-        while (i < length && !ends_line(bytes[i]))
-            i++;
-        if (i > begin)
-            lines++;
-        if (lines > 1 && i - begin == 2 && memcmp(bytes + begin, "$$", 2) == 0)
-            return i;
-        i++;
-    }
-    return length;
-}
-
 const char *input_name(const char *path)
 {
     return strcmp(path, "-") == 0 ? "<stdin>" : path;
@@ -139,7 +121,7 @@ enum status open_input(const char *path, const struct options *options, struct i
     if (input->kind == KIND_TAPE_REPEAT && options->read_sum)
         input->kind = KIND_TAPE_SUM;
     if (input->kind == KIND_SYMBOLS)
-        input->start = behind_block(input->bytes, input->length);
+        input->start = srec_behind(input->bytes, input->length);
     return DONE;
 }
 

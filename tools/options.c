@@ -225,6 +225,7 @@ enum status read_options(char **words, int count, unsigned taken, struct options
     int at = 0;
 
     memset(options, 0, sizeof *options);
+    options->to = SREC_RECORDS;
     options->operands = words;
     while (at < count) {
         char *word = words[at];

@@ -13,7 +13,7 @@ enum kind {
     KIND_RECORDS = SREC_RECORDS,
     KIND_TAPE_REPEAT = SREC_TAPE_REPEAT,
     KIND_TAPE_SUM = SREC_TAPE_SUM,
-    KIND_SYMBOLS
+    KIND_SYMBOLS = SREC_RECORDS + 1
 };
 
 /* A bit for each option, for the set that a command takes. */

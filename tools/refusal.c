@@ -49,18 +49,17 @@ static void tell_edition(const struct input *input, size_t place)
                 input->kind == KIND_TAPE_REPEAT ? "--edition sum (--from tape-sum)" : "--edition repeat (--from tape)");
 }
 
-/* The first cell of a record that an earlier one gave. All records before it are good ones. */
-static void tell_first(const struct input *input, size_t place)
+/* The first cell of a refused record that an earlier one gave. */
+static void tell_first(const struct input *input, size_t place, size_t record)
 {
-    struct records before = records_of(input);
+    struct records all = records_of(input);
     struct cells cells = cells_at(input, place);
 
-    before.length = place - input->start;
     for (size_t i = 0; i < cells.count; i++) {
         uint32_t address = (uint32_t)(cells.address + i);
-        struct srec_origin origin = srec_where(before.format, before.text, before.length, address);
+        struct srec_origin origin = srec_where(all.format, all.text, all.length, address);
 
-        if (origin.record != 0) {
+        if (origin.record != 0 && origin.record < record) {
             fprintf(stderr, "  cell %08" PRIX32 " was given first by line %zu\n", address,
                     spot_of(input, origin.place + input->start).line);
             return;
@@ -118,7 +117,7 @@ void tell_refusal(const struct input *input, const struct window *window, const 
     else if (answer->reason == ROW_OUTSIDE)
         tell_outside(input, window, place);
     else if (answer->reason == ROW_TWICE)
-        tell_first(input, place);
+        tell_first(input, place, answer->record);
 }
 
 void tell_refused_sheet(const struct input *symbols, const struct input *sheet, const struct srec_loaded *answer)

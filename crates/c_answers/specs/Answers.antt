@@ -53,6 +53,6 @@ reachOf s = record { any = flagOf (s .any); lowest = s .lowest; highest = s .hig
 unfoldable pub entryFor : ℕ → ℕ → Entry
 entryFor present address = cond (eqb present 0) Absent (Present address)
 
--- 0 for S-records, 1 for tapes that repeat the number, any other number for those that sum
+-- 0 for tapes that repeat the number and 1 for those that sum, as editions are numbered; any other number for S-records
 unfoldable pub formatFor : ℕ → Format
-formatFor number = cond (eqb number 0) Records (cond (eqb number 1) (Tape Repeat) (Tape Sum))
+formatFor number = cond (eqb number 0) (Tape Repeat) (cond (eqb number 1) (Tape Sum) Records)

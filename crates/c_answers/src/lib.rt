@@ -135,10 +135,10 @@ pub fn format_for(number: u32) -> Format
     ensures { λ r. ⌜ r ≡ formatFor number ⌝ }
 {
     if number == 0 {
-        return Format::Records;
-    }
-    if number == 1 {
         return Format::Tape(Edition::Repeat);
     }
-    Format::Tape(Edition::Sum)
+    if number == 1 {
+        return Format::Tape(Edition::Sum);
+    }
+    Format::Records
 }

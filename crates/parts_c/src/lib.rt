@@ -36,6 +36,13 @@ pub struct Parts {
     pub line: [u8; 516],
 }
 
+// What ended a load: its answer, and the state behind it: `struct srec_ended`.
+#[repr(C)]
+pub struct Last {
+    pub loaded: Answer,
+    pub parts: Parts,
+}
+
 // The state that the numbers stand for.
 fn session_of(parts: Parts) -> Session
     ensures { λ r. ⌜ r ≡ sessionOf parts ⌝ }
@@ -132,15 +139,22 @@ pub extern "C" fn srec_feed(
     parts_of(next)
 }
 
-// Ends a load in parts: its answer.
+// Ends a load in parts.
 #[no_mangle]
-pub extern "C" fn srec_end(parts: Parts, base: u32, memory: &mut [u8], marks: &mut [u8]) -> Answer
-    ensures answer { λ r. ⌜ r ≡ answerOf (answeredIn Bytes (endAs Bytes (statusOf (sessionOf parts)) (windowOf base (now (memory .entry)) (now (marks .entry))) .status) (endAs Bytes (statusOf (sessionOf parts)) (windowOf base (now (memory .entry)) (now (marks .entry))) .marks)) ⌝ }
+pub extern "C" fn srec_end(parts: Parts, base: u32, memory: &mut [u8], marks: &mut [u8]) -> Last
+    ensures answer { λ r. ⌜ r .loaded ≡ answerOf (answeredIn Bytes (endAs Bytes (statusOf (sessionOf parts)) (windowOf base (now (memory .entry)) (now (marks .entry))) .status) (endAs Bytes (statusOf (sessionOf parts)) (windowOf base (now (memory .entry)) (now (marks .entry))) .marks)) ⌝ }
+    ensures status { λ r. ⌜ statusOf (sessionOf (r .parts)) ≡ endAs Bytes (statusOf (sessionOf parts)) (windowOf base (now (memory .entry)) (now (marks .entry))) .status ⌝ }
     ensures memory { λ _. ⌜ now (memory .exit) ≡ endAs Bytes (statusOf (sessionOf parts)) (windowOf base (now (memory .entry)) (now (marks .entry))) .memory ⌝ }
     ensures marks { λ _. ⌜ now (marks .exit) ≡ endAs Bytes (statusOf (sessionOf parts)) (windowOf base (now (memory .entry)) (now (marks .entry))) .marks ⌝ }
 {
     let session = session_of(parts);
     let ended = end::end(session, base, memory, marks);
     let loaded = ended.loaded;
-    c_answers::answer_of(loaded)
+    let last = ended.session;
+    let told = c_answers::answer_of(loaded);
+    let kept = parts_of(last);
+    Last {
+        loaded: told,
+        parts: kept,
+    }
 }

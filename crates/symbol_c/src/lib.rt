@@ -1,11 +1,16 @@
 // Texts with a symbol block, and patch sheets, for C. include/srec.h declares them.
 use c_answers::Answer;
+use c_answers::Reach;
+use symbols::Block;
 ghost use mathlib.Core.Path.{_≡_};
 ghost use Rattle.window.specs.Windows.{windowOf};
 ghost use Rattle.text.specs.Load.{loadAnswer, memoryAfter, marksAfter};
 ghost use Rattle.symbol_load.specs.Loads.{loadBehind};
 ghost use Rattle.sheets.specs.Sheets.{sheetOutcome};
-ghost use Rattle.c_answers.specs.Answers.{answerOf};
+ghost use Rattle.symbols.specs.Blocks.{blockOf};
+ghost use Rattle.sheet_survey.specs.SheetSpans.{sheetSpan};
+ghost use Rattle.c_answers.specs.Answers.{answerOf, reachOf};
+ghost use Rattle.symbol_c.specs.Rests.{behind};
 
 // Loads the S-records behind a text's symbol block.
 #[no_mangle]
@@ -38,4 +43,25 @@ pub extern "C" fn srec_load_sheet(
 {
     let loaded = sheet_load::load_sheet(text, sheet, base, memory, marks);
     c_answers::answer_of(loaded)
+}
+
+// The lowest and the highest address that a patch sheet addresses, with the symbols of a text's symbol block.
+#[no_mangle]
+pub extern "C" fn srec_span_sheet(text: &[u8], sheet: &[u8]) -> Reach
+    ensures { λ r. ⌜ r ≡ reachOf (sheetSpan (now (text .entry)) (now (sheet .entry))) ⌝ }
+{
+    let span = sheet_survey::sheet_span(text, sheet);
+    c_answers::reach_of(span)
+}
+
+// Where the S-records begin behind a text's symbol block; the text's length, if a row refuses the block.
+#[no_mangle]
+pub extern "C" fn srec_behind(text: &[u8]) -> usize
+    ensures { λ r. ⌜ r ≡ behind (now (text .entry)) (blockOf (now (text .entry))) ⌝ }
+{
+    let block = symbols::read_block(text);
+    match block {
+        Block::Bad { .. } => text.len(),
+        Block::Table { to, .. } => to + 2,
+    }
 }
