@@ -1,6 +1,10 @@
-/* canonical: reads an S-record file and writes its canonical text, so that diff compares images and not line layouts.
+/* canonical: reads S-records and writes their canonical text, so that diff compares images and not line layouts.
  *
- *   cc -std=c11 -I include examples/canonical.c target/staticlib/libcapi.a -o canonical
+ *   cc -std=c99 -I include examples/canonical.c target/libsrec.a -o canonical
+ *
+ * Four calls do the work: srec_span tells which window the text needs, srec_load_as loads it there, srec_room tells how
+ * long the canonical text will be, and srec_write_as writes it. Header and entry go from the load to the write, so nothing
+ * is lost but the layout.
  */
 #include <errno.h>
 #include <stdint.h>
@@ -12,13 +16,10 @@
 
 enum { ACCEPTED = 0, REFUSED = 1, TROUBLE = 2 };
 
-/* srec_load does not return the header and the entry of a text, so they are lost here. */
 static const char usage[] =
-    "usage: canonical FILE [BASE [LENGTH]]\n"
-    "Loads the S-records of FILE into LENGTH cells from address BASE on (if not given:\n"
-    "65536 cells from 0) and writes their canonical text to standard output. Numbers\n"
-    "may be decimal or, with 0x, hexadecimal. The header of FILE and its entry are not\n"
-    "kept: the text has an empty header and the entry 0.\n"
+    "usage: canonical [FILE]\n"
+    "Writes the canonical text of the S-records of FILE, or of standard input, to\n"
+    "standard output.\n"
     "Exit status: 0 written, 1 FILE is refused, 2 wrong usage or an input/output error.\n";
 
 struct text {
@@ -26,16 +27,17 @@ struct text {
     size_t length;
 };
 
+/* memory[i] is the cell at address base + i, and marks[i] says if the text addresses it. */
 struct window {
     uint32_t base;
+    size_t length;
     uint8_t *memory;
     uint8_t *marks;
-    size_t length;
 };
 
-static int trouble(const char *name, const char *words)
+static int trouble(const char *name)
 {
-    fprintf(stderr, "canonical: %s: %s\n", name, words);
+    fprintf(stderr, "canonical: %s: %s\n", name, strerror(errno));
     return TROUBLE;
 }
 
@@ -60,75 +62,65 @@ static int read_all(FILE *file, struct text *text)
     }
 }
 
-static int read_file(const char *name, struct text *text)
+/* The smallest window that holds every cell of the text, so that no data lies outside (row 12). Returns 0, or -1. */
+static int make_window(const struct text *text, struct window *window)
 {
-    FILE *file = fopen(name, "rb");
-    if (!file)
-        return -1;
-    int result = read_all(file, text);
-    int error = errno;
-    fclose(file);
-    errno = error;
-    return result;
+    struct srec_span span = srec_span(SREC_RECORDS, text->bytes, text->length);
+
+    window->base = (uint32_t)span.lowest;
+    window->length = span.any ? (size_t)(span.highest - span.lowest + 1) : 0;
+    /* One byte more: for 0 bytes NULL would be no sign of an error. */
+    window->memory = (uint8_t *)calloc(window->length + 1, 1);
+    window->marks = (uint8_t *)calloc(window->length + 1, 1);
+    return window->memory && window->marks ? 0 : -1;
 }
 
-/* Returns 0 if the whole word is a number of at most `most`. */
-static int parse(const char *word, unsigned long long most, unsigned long long *number)
+/* Tells a refusal: which record, where it stands, why, and the checksum that it should have. */
+static int refuse(const char *name, const struct srec_loaded *loaded)
 {
-    char *end;
-
-    /* strtoull would take blanks and a sign too. */
-    if (word[0] < '0' || word[0] > '9')
-        return -1;
-    /* A zero in front does not mean octal. */
-    int base = word[0] == '0' && (word[1] == 'x' || word[1] == 'X') ? 16 : 10;
-    errno = 0;
-    *number = strtoull(word, &end, base);
-    return errno || *end || *number > most ? -1 : 0;
+    fprintf(stderr, "canonical: %s: record %lu, character %lu: row %u: %s", name, (unsigned long)loaded->record,
+            (unsigned long)loaded->place, (unsigned)loaded->reason, srec_reason(loaded->reason));
+    if (loaded->reason == 7)
+        fprintf(stderr, ", %02X would be right", (unsigned)loaded->want);
+    fputc('\n', stderr);
+    return REFUSED;
 }
 
-/* Writes the canonical text of a window to standard output. */
-static int write_text(const struct window *window)
+/* Writes what was loaded to standard output. A load that was accepted can always be written, given the room. */
+static int write_text(const struct window *window, const struct srec_loaded *loaded)
 {
-    size_t cells = 0;
-    for (size_t i = 0; i < window->length; i++)
-        cells += window->marks[i];
+    struct srec_written room = srec_room(SREC_RECORDS, window->base, window->memory, window->length, window->marks,
+                                         window->length, loaded->header, loaded->header_len, loaded->has_entry,
+                                         loaded->entry);
+    uint8_t *out = (uint8_t *)malloc(room.length);
 
-    /* Enough for an empty header even if every cell is a record of its own, see srec.h. */
-    size_t room = 11 + 15 * cells + 2 * cells + 26;
-    uint8_t *out = (uint8_t *)malloc(room);
     if (!out)
-        return trouble("output", strerror(ENOMEM));
-    size_t length = srec_write(window->base, window->memory, window->length, window->marks, window->length,
-                               NULL, 0, 0, out, room);
+        return trouble("output");
+    srec_write_as(SREC_RECORDS, window->base, window->memory, window->length, window->marks, window->length,
+                  loaded->header, loaded->header_len, loaded->has_entry, loaded->entry, out, room.length);
     int status = ACCEPTED;
-    if (length == 0)
-        status = trouble("output", srec_reason(17));
-    else if (fwrite(out, 1, length, stdout) != length || fflush(stdout) != 0)
-        status = trouble("standard output", strerror(errno));
+    if (fwrite(out, 1, room.length, stdout) != room.length || fflush(stdout) != 0)
+        status = trouble("standard output");
     free(out);
     return status;
 }
 
-static int load_and_write(const char *name, const struct text *text, uint32_t base, size_t length)
+static int convert(const char *name, FILE *file)
 {
-    struct window window = {base, NULL, NULL, length};
+    struct text text = {NULL, 0};
+    struct window window = {0, 0, NULL, NULL};
     int status;
 
-    /* Not 0 bytes, for which NULL would be no sign of an error. */
-    window.memory = (uint8_t *)calloc(length ? length : 1, 1);
-    window.marks = (uint8_t *)calloc(length ? length : 1, 1);
-    if (!window.memory || !window.marks) {
-        status = trouble("window", strerror(ENOMEM));
+    if (read_all(file, &text) != 0) {
+        status = trouble(name);
+    } else if (make_window(&text, &window) != 0) {
+        status = trouble("window");
     } else {
-        unsigned row = srec_load(text->bytes, text->length, base, window.memory, length, window.marks, length);
-        if (row == 0) {
-            status = write_text(&window);
-        } else {
-            fprintf(stderr, "canonical: %s: refused by row %u: %s\n", name, row, srec_reason(row));
-            status = REFUSED;
-        }
+        struct srec_loaded loaded = srec_load_as(SREC_RECORDS, text.bytes, text.length, window.base, window.memory,
+                                                 window.length, window.marks, window.length);
+        status = loaded.reason == 0 ? write_text(&window, &loaded) : refuse(name, &loaded);
     }
+    free(text.bytes);
     free(window.memory);
     free(window.marks);
     return status;
@@ -136,20 +128,16 @@ static int load_and_write(const char *name, const struct text *text, uint32_t ba
 
 int main(int argc, char **argv)
 {
-    unsigned long long base = 0;
-    unsigned long long length = 65536;
-
-    if (argc < 2 || argc > 4 || (argc > 2 && parse(argv[2], UINT32_MAX, &base)) ||
-        (argc > 3 && parse(argv[3], SIZE_MAX, &length))) {
+    if (argc > 2) {
         fputs(usage, stderr);
         return TROUBLE;
     }
-    struct text text = {NULL, 0};
-    int status;
-    if (read_file(argv[1], &text) != 0)
-        status = trouble(argv[1], strerror(errno));
-    else
-        status = load_and_write(argv[1], &text, (uint32_t)base, (size_t)length);
-    free(text.bytes);
+    if (argc < 2)
+        return convert("standard input", stdin);
+    FILE *file = fopen(argv[1], "rb");
+    if (!file)
+        return trouble(argv[1]);
+    int status = convert(argv[1], file);
+    fclose(file);
     return status;
 }

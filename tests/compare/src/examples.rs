@@ -4,7 +4,7 @@ use second::reading::{self, Refusal};
 use std::fs;
 use std::path::Path;
 
-/// The window that the example program takes if none is given.
+/// A window that holds the cells of both; what is written does not depend on it.
 const CELLS: usize = 65_536;
 
 pub fn hold() -> Result<String, String> {
@@ -23,11 +23,12 @@ pub fn hold() -> Result<String, String> {
     Ok("sample.canonical is right, lost-bit.srec is refused by row 13".to_string())
 }
 
-/// What the example program writes: with the empty header and the entry 0.
+/// What the example program writes: with the text's own header and entry. A refused text has neither.
 fn canonical(text: &[u8]) -> (Refusal, Vec<u8>) {
     let (mut memory, mut marks) = (vec![0; CELLS], vec![0; CELLS]);
     let loaded = reading::load(text, 0, &mut memory, &mut marks);
-    let text = reading::canonical(0, &memory, &marks, &[], 0);
+    let header = &loaded.header[..loaded.header_len];
+    let text = reading::canonical(0, &memory, &marks, header, loaded.entry.unwrap_or(0));
     (loaded.refusal, text)
 }
 
