@@ -1,14 +1,12 @@
 /* empty: buffers of length 0, for which any pointer will do. */
-#include <string.h>
-
-#include "check.h"
-#include "srec.h"
+#include "answer.h"
 
 static const uint8_t terminator[] = {'S', '9', '0', '3', '0', '0', '0', '0', 'F', 'C'};
 static const uint8_t one_cell[] = "S1040000AA51\nS9030000FC\n";
 static const char shortest[] = "S0030000FC\nS5030000FC\nS9030000FC\n";
 static const uint8_t last_line[] = {';', '0', '0', '0', '0', '0', '0', '0', '0', '0', '0'};
 static const uint8_t tape_cell[] = ";010000AA00AB\r\n;0000010001\r\n";
+static const uint8_t block[] = {'$', '$', ' ', 'M', '\n', '$', '$'};
 static const char shortest_tape[] = ";0000000000\r\n";
 
 enum { SHORTEST = sizeof shortest - 1, ONE_CELL = sizeof one_cell - 1 };
@@ -119,6 +117,79 @@ static void write_tapes(void)
     CHECK(srec_write_tape(SREC_REPEAT, 0, NULL, 0, marks, 1, out, sizeof out) == 0);
 }
 
+/* ---- the whole answer ---- */
+
+static void whole_loads(void)
+{
+    for (uint32_t format = SREC_RECORDS; format <= SREC_TAPE_SUM; format++) {
+        LOADED(srec_load_as(format, NULL, 0, 0, NULL, 0, NULL, 0), refusal(14, 0, 0, 0));
+        LOADED(srec_load_as(format, NULL, 0, UINT32_MAX, NULL, 0, NULL, 0), refusal(14, 0, 0, 0));
+    }
+    LOADED(srec_load_as(SREC_RECORDS, terminator, sizeof terminator, 0, NULL, 0, NULL, 0),
+           titled(accepted(0, 0), NULL, 0, 0));
+    LOADED(srec_load_as(SREC_TAPE_SUM, last_line, sizeof last_line, 0, NULL, 0, NULL, 0), accepted(0, 0));
+    LOADED(srec_load_as(SREC_RECORDS, one_cell, ONE_CELL, 0, NULL, 0, NULL, 0), refusal(12, 0, 1, 0));
+    LOADED(srec_load_as(SREC_TAPE_SUM, tape_cell, TAPE_CELL, 0, NULL, 0, NULL, 0), refusal(12, 0, 1, 0));
+}
+
+static void whole_writes(void)
+{
+    uint8_t out[SHORTEST];
+
+    WRITTEN(srec_room(SREC_RECORDS, 7, NULL, 0, NULL, 0, NULL, 0, 1, 0), 0, 0, SHORTEST);
+    WRITTEN(srec_write_as(SREC_RECORDS, 7, NULL, 0, NULL, 0, NULL, 0, 1, 0, out, SHORTEST), 0, 0, SHORTEST);
+    CHECK(memcmp(out, shortest, SHORTEST) == 0);
+    WRITTEN(srec_write_as(SREC_RECORDS, 7, NULL, 0, NULL, 0, NULL, 0, 1, 0, NULL, 0), 17, SHORTEST, 0);
+    WRITTEN(srec_write_as(SREC_RECORDS, 7, NULL, 0, NULL, 0, NULL, 0, 0, 0, NULL, 0), 18, 0, 0);
+    WRITTEN(srec_room(SREC_TAPE_SUM, 7, NULL, 0, NULL, 0, NULL, 0, 0, 0), 0, 0, SHORTEST_TAPE);
+    WRITTEN(srec_write_as(SREC_TAPE_SUM, 7, NULL, 0, NULL, 0, NULL, 0, 0, 0, out, sizeof out), 0, 0, SHORTEST_TAPE);
+    CHECK(memcmp(out, shortest_tape, SHORTEST_TAPE) == 0);
+    WRITTEN(srec_write_as(SREC_TAPE_SUM, 7, NULL, 0, NULL, 0, NULL, 0, 0, 0, NULL, 0), 17, SHORTEST_TAPE, 0);
+}
+
+static void spans(void)
+{
+    for (uint32_t format = SREC_RECORDS; format <= SREC_TAPE_SUM; format++) {
+        CHECK(srec_span(format, NULL, 0).any == 0);
+        CHECK(srec_where(format, NULL, 0, 0).record == 0);
+    }
+    CHECK(srec_span_sheet(NULL, 0, NULL, 0).any == 0);
+    CHECK(srec_span_sheet(block, sizeof block, NULL, 0).any == 0);
+}
+
+/* Two empty images make one; a base without cells takes no patch of some. */
+static void images(void)
+{
+    const uint8_t memory[] = {0xAA}, marks[] = {1};
+
+    LOADED(srec_merge(7, NULL, 0, NULL, 0, NULL, 0, 0, 0, NULL, 0, NULL, 0, NULL, 0, 0, 0), accepted(0, 0));
+    LOADED(srec_merge(7, NULL, 0, NULL, 0, memory, 1, 1, 9, NULL, 0, NULL, 0, NULL, 0, 0, 0),
+           titled(accepted(0, 0), memory, 1, 9));
+    LOADED(srec_merge(7, NULL, 0, NULL, 0, NULL, 0, 0, 0, memory, 1, marks, 1, NULL, 0, 0, 0), refusal(1, 0, 0, 0));
+    for (size_t chips = 2; chips <= 4; chips += 2) {
+        LOADED(srec_deal(chips, 8, NULL, 0, NULL, 0, NULL, 0, NULL, 0, NULL, 0, NULL, 0, NULL, 0, NULL, 0, NULL, 0,
+                         NULL, 0),
+               accepted(0, 0));
+        LOADED(srec_collect(chips, 8, NULL, 0, NULL, 0, NULL, 0, NULL, 0, NULL, 0, NULL, 0, NULL, 0, NULL, 0, NULL, 0,
+                            NULL, 0),
+               accepted(0, 0));
+    }
+    LOADED(srec_deal(0, 8, NULL, 0, NULL, 0, NULL, 0, NULL, 0, NULL, 0, NULL, 0, NULL, 0, NULL, 0, NULL, 0, NULL, 0),
+           refusal(21, 0, 0, 0));
+}
+
+static void symbols(void)
+{
+    uint8_t memory[1] = {7}, marks[1] = {7};
+
+    LOADED(srec_load_behind(NULL, 0, 0, NULL, 0, NULL, 0), refusal(22, 0, 0, 0));
+    LOADED(srec_load_behind(block, sizeof block, 0, NULL, 0, NULL, 0), refusal(14, 0, 0, 0));
+    LOADED(srec_load_sheet(NULL, 0, NULL, 0, 0, NULL, 0, NULL, 0), refusal(22, 0, 0, 0));
+    LOADED(srec_load_sheet(block, sizeof block, NULL, 0, 0, NULL, 0, NULL, 0), accepted(0, 0));
+    LOADED(srec_load_sheet(block, sizeof block, NULL, 0, 0, memory, 1, marks, 1), accepted(0, 0));
+    CHECK(memory[0] == 7 && marks[0] == 0);
+}
+
 int main(void)
 {
     empty_text();
@@ -129,5 +200,10 @@ int main(void)
     empty_output();
     load_tapes();
     write_tapes();
+    whole_loads();
+    whole_writes();
+    spans();
+    images();
+    symbols();
     return failures != 0;
 }

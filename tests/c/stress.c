@@ -1,17 +1,16 @@
 /* stress CASES FILE...: loads so many drawn and mutated texts of each format, writes what was accepted, and loads that
- * again. The files are S-record texts, to be mutated too.
+ * again. The files are S-record texts, to be mutated too. The fields of each answer must agree with the window, with the row
+ * alone, and with the span of the text.
  *
  * Every buffer of the library comes from malloc and is just as long as the library is told. Marks are never set before
  * a load, and memory only in half of the cases. So under valgrind any access outside a buffer is seen, and any use of
  * what a buffer held before. The cases depend on the arguments only.
  */
 #include <stdlib.h>
-#include <string.h>
 
-#include "check.h"
-#include "srec.h"
+#include "answer.h"
 
-enum { LAST_ROW = 14, ROOM = 16384, LONGEST_FILE = 8192 };
+enum { LAST_ROW = 14, ROOM = 16384, LONGEST_FILE = 8192, ENTRY = 0x1234 };
 
 struct text {
     uint8_t *bytes;
@@ -228,53 +227,113 @@ static void free_window(struct window *window)
     free(window->before);
 }
 
-static size_t write_records(const struct window *window, const struct text *header, uint8_t *out, size_t room)
-{
-    return srec_write(window->base, window->memory, window->length, window->marks, window->marks_length, header->bytes,
-                      header->length, 0x1234, out, room);
-}
-
 static uint32_t load_tape(const uint8_t *text, size_t text_len, uint32_t base, uint8_t *memory, size_t memory_len,
                           uint8_t *marks, size_t marks_len)
 {
     return srec_load_tape(SREC_REPEAT, text, text_len, base, memory, memory_len, marks, marks_len);
 }
 
-/* A tape has no header. */
-static size_t write_tape(const struct window *window, const struct text *header, uint8_t *out, size_t room)
-{
-    (void)header;
-    return srec_write_tape(SREC_REPEAT, window->base, window->memory, window->length, window->marks,
-                           window->marks_length, out, room);
-}
-
-/* `others` are the characters besides the header and the data lines, `line` those of a line besides its data, and
- * `shortest` those of the shortest text. Of the rows up to LAST_ROW those in `never` are not given. */
+/* `alone` gives the row alone. `shortest` is the length of the shortest text. Of the rows up to LAST_ROW those in `never`
+ * are not given. */
 struct format {
     const char *name;
+    uint32_t number;
     void (*draw_text)(struct text *text, const struct window *window);
-    uint32_t (*load)(const uint8_t *, size_t, uint32_t, uint8_t *, size_t, uint8_t *, size_t);
-    size_t (*write)(const struct window *window, const struct text *header, uint8_t *out, size_t room);
-    size_t others, line, shortest;
+    uint32_t (*alone)(const uint8_t *, size_t, uint32_t, uint8_t *, size_t, uint8_t *, size_t);
+    size_t shortest;
     unsigned never;
 };
 
 enum { RECORDS, TAPES, FORMATS };
 
 static const struct format formats[FORMATS] = {
-    {"S-records", draw_records, srec_load, write_records, 37, 15, 33, 1 << 9},
-    {"tapes", draw_tape, load_tape, write_tape, 13, 13, 13, 1 << 8 | 1 << 9},
+    {"S-records", SREC_RECORDS, draw_records, srec_load, 33, 1 << 9},
+    {"tapes", SREC_TAPE_REPEAT, draw_tape, load_tape, 13, 1 << 8 | 1 << 9},
 };
 
-static uint32_t load(const struct format *format, struct window *window, const struct text *text)
+/* ---- loads ---- */
+
+/* A window of the same base and lengths, never set. */
+static struct window same_window(const struct window *window)
 {
-    uint8_t *exact = allocate(text->length);
+    struct window same = *window;
+    same.memory = allocate(same.length);
+    same.marks = allocate(same.marks_length);
+    same.before = NULL;
+    return same;
+}
+
+/* The row alone is that of the whole answer, and leaves the same marks. */
+static void check_alone(const struct format *format, const struct window *window, const struct text *text, uint32_t row)
+{
+    struct window other = same_window(window);
+
+    CHECK(format->alone(text->bytes, text->length, other.base, other.memory, other.length, other.marks,
+                        other.marks_length) == row);
+    for (size_t i = 0; i < other.marks_length; i++)
+        CHECK(other.marks[i] == window->marks[i]);
+    free_window(&other);
+}
+
+static size_t count_cells(const struct window *window)
+{
+    size_t cells = 0;
+    for (size_t i = 0; i < window->marks_length; i++)
+        cells += window->marks[i];
+    return cells;
+}
+
+/* A refusal has a place in the text, or at its end, and nothing else. */
+static void check_answer(const struct format *format, const struct window *window, const struct text *text,
+                         const struct srec_loaded *got)
+{
+    CHECK(got->place <= text->length && got->record <= text->length && got->want <= 255);
+    CHECK(got->want == 0 || (got->reason == 7 && format->number == SREC_RECORDS));
+    CHECK(got->has_entry == (got->reason == 0 && format->number == SREC_RECORDS));
+    CHECK(got->has_entry == 1 || (got->entry == 0 && got->header_len == 0));
+    CHECK(got->header_len <= sizeof got->header);
+    CHECK(all(got->header + got->header_len, sizeof got->header - got->header_len, 0));
+    CHECK(got->cells == count_cells(window));
+    CHECK(got->reason == 0 ? got->record == 0 && got->place == 0 : got->records == 0 && got->cells == 0);
+}
+
+/* The span is that of the marks, or does not fit where row 12 says so; and a drawn cell is where a mark is. */
+static void check_span(const struct format *format, const struct window *window, const struct text *text, uint32_t row)
+{
+    struct srec_span span = srec_span(format->number, text->bytes, text->length);
+    size_t first = 0, end = window->length, index = draw(window->length + 1);
+    struct srec_origin origin =
+        srec_where(format->number, text->bytes, text->length, (uint32_t)(window->base + index));
+
+    CHECK(span.any <= 1 && span.lowest <= span.highest && span.highest <= UINT32_MAX);
+    CHECK(origin.record <= text->length && origin.place <= text->length && origin.byte <= 255);
+    CHECK(row != 12 || (span.any && (span.lowest < window->base || span.highest >= window->base + (uint64_t)end)));
+    if (row != 0)
+        return;
+    while (first < end && window->marks[first] == 0)
+        first++;
+    while (end > first && window->marks[end - 1] == 0)
+        end--;
+    CHECK(span.any == (first < end));
+    CHECK(first == end || (span.lowest == window->base + (uint64_t)first && span.highest == window->base + (uint64_t)end - 1));
+    if (index < window->length) {
+        CHECK((origin.record > 0) == window->marks[index]);
+        CHECK(origin.record == 0 || origin.byte == window->memory[index]);
+    }
+}
+
+static struct srec_loaded load(const struct format *format, struct window *window, const struct text *text)
+{
+    struct text exact = {allocate(text->length), text->length};
     if (text->length > 0)
-        memcpy(exact, text->bytes, text->length);
-    uint32_t row = format->load(exact, text->length, window->base, window->memory, window->length, window->marks,
-                                window->marks_length);
-    free(exact);
-    return row;
+        memcpy(exact.bytes, text->bytes, text->length);
+    struct srec_loaded got = srec_load_as(format->number, exact.bytes, exact.length, window->base, window->memory,
+                                          window->length, window->marks, window->marks_length);
+    check_answer(format, window, text, &got);
+    check_alone(format, window, &exact, got.reason);
+    check_span(format, window, &exact, got.reason);
+    free(exact.bytes);
+    return got;
 }
 
 /* Every mark is set, every addressed cell too, and all other cells are as before. */
@@ -293,57 +352,71 @@ static void check_window(const struct window *window, uint32_t row)
     }
 }
 
-/* Writes a window into an output of `room` bytes, which must come to `length`. */
+/* ---- writes ---- */
+
+/* Writes a window into an output of `room` bytes, where the text needs `length`. A tape has neither header nor entry. */
 static struct text write_once(const struct format *format, const struct window *window, const struct text *header,
                               size_t room, size_t length)
 {
     struct text out = {allocate(room), 0};
-    out.length = format->write(window, header, out.bytes, room);
-    CHECK(out.length == length || length == SIZE_MAX);
-    CHECK(out.length <= room);
+    struct srec_written put = srec_write_as(format->number, window->base, window->memory, window->length, window->marks,
+                                            window->marks_length, header->bytes, header->length,
+                                            format->number == SREC_RECORDS, ENTRY, out.bytes, room);
+
+    if (room < length)
+        WRITTEN(put, 17, length, 0);
+    else
+        WRITTEN(put, 0, 0, length);
+    out.length = put.length;
     for (size_t i = 0; i < out.length; i++)
         look_at(out.bytes[i]);
     return out;
 }
 
 /* Writes with more room than needed, as much as needed and one byte less. The text is the caller's to free. */
-static struct text write_thrice(const struct format *format, const struct window *window)
+static struct text write_thrice(const struct format *format, const struct window *window, const struct text *header)
 {
-    struct text header = {NULL, draw(3) ? 0 : draw(253)};
-    size_t cells = 0;
+    struct srec_written room = srec_room(format->number, window->base, window->memory, window->length, window->marks,
+                                         window->marks_length, header->bytes, header->length,
+                                         format->number == SREC_RECORDS, ENTRY);
+
+    WRITTEN(room, 0, 0, room.length);
+    CHECK(room.length >= format->shortest);
+    struct text wide = write_once(format, window, header, room.length + draw(100), room.length);
+    struct text exact = write_once(format, window, header, room.length, room.length);
+    CHECK(memcmp(wide.bytes, exact.bytes, room.length) == 0);
+    free(wide.bytes);
+    free(write_once(format, window, header, room.length - 1, room.length).bytes);
+    return exact;
+}
+
+static struct text draw_header(const struct format *format)
+{
+    struct text header = {NULL, format->number != SREC_RECORDS || draw(3) ? 0 : draw(253)};
 
     header.bytes = allocate(header.length);
     for (size_t i = 0; i < header.length; i++)
         header.bytes[i] = (uint8_t)draw(256);
-    for (size_t i = 0; i < window->length; i++)
-        cells += window->marks[i];
-    size_t enough = format->others + 2 * header.length + (format->line + 2) * cells;
-    struct text wide = write_once(format, window, &header, enough, SIZE_MAX);
-    struct text exact = write_once(format, window, &header, wide.length, wide.length);
-    CHECK(exact.length >= format->shortest && memcmp(wide.bytes, exact.bytes, exact.length) == 0);
-    free(wide.bytes);
-    if (exact.length > 0)
-        free(write_once(format, window, &header, exact.length - 1, 0).bytes);
-    free(header.bytes);
-    return exact;
+    return header;
 }
 
 /* Writes an accepted window and loads the text into a fresh one, which must come out alike. */
 static void check_again(const struct format *format, const struct window *window)
 {
-    struct text text = write_thrice(format, window);
-    struct window again = *window;
+    struct text header = draw_header(format), text = write_thrice(format, window, &header);
+    struct window again = same_window(window);
+    struct srec_loaded got = load(format, &again, &text);
 
-    again.memory = allocate(again.length);
-    again.marks = allocate(again.marks_length);
-    again.before = NULL;
-    CHECK(load(format, &again, &text) == 0);
+    CHECK(got.reason == 0 && got.header_len == header.length);
+    CHECK(header.length == 0 || memcmp(got.header, header.bytes, header.length) == 0);
+    CHECK(got.entry == (format->number == SREC_RECORDS ? ENTRY : 0));
     check_window(&again, 0);
     for (size_t i = 0; i < window->length; i++) {
         CHECK(again.marks[i] == window->marks[i]);
         CHECK(window->marks[i] == 0 || again.memory[i] == window->memory[i]);
     }
     free_window(&again);
+    free(header.bytes);
     free(text.bytes);
 }
 
@@ -360,7 +433,7 @@ static uint32_t run_case(const struct format *format, char **files, size_t numbe
         format->draw_text(&text, &window);
     for (size_t changes = draw(2) * draw(3); changes > 0; changes--)
         mutate(&text);
-    uint32_t row = load(format, &window, &text);
+    uint32_t row = load(format, &window, &text).reason;
     check_window(&window, row);
     if (row == 0)
         check_again(format, &window);

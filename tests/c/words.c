@@ -1,4 +1,4 @@
-/* words: srec_reason has words of their own for 0 to 24, and none for other numbers. */
+/* words: srec_reason has words of their own for 0 to 27, and none for other numbers. */
 #include <limits.h>
 #include <string.h>
 

@@ -1,0 +1,45 @@
+/* layout: sizes and offsets of the structures that are returned by value, as the library has them on x86-64. */
+#include <stddef.h>
+
+#include "check.h"
+#include "srec.h"
+
+/* 4, 4, four times 8, 4, 4, 8 and 252 bytes; 4 more bring it to a multiple of 8. */
+static void loaded(void)
+{
+    CHECK(offsetof(struct srec_loaded, reason) == 0);
+    CHECK(offsetof(struct srec_loaded, want) == 4);
+    CHECK(offsetof(struct srec_loaded, record) == 8);
+    CHECK(offsetof(struct srec_loaded, place) == 16);
+    CHECK(offsetof(struct srec_loaded, records) == 24);
+    CHECK(offsetof(struct srec_loaded, cells) == 32);
+    CHECK(offsetof(struct srec_loaded, has_entry) == 40);
+    CHECK(offsetof(struct srec_loaded, entry) == 44);
+    CHECK(offsetof(struct srec_loaded, header_len) == 48);
+    CHECK(offsetof(struct srec_loaded, header) == 56);
+    CHECK(sizeof(struct srec_loaded) == 312);
+}
+
+/* Each has 4 bytes before or behind two of 8, and takes three times 8. */
+static void others(void)
+{
+    CHECK(offsetof(struct srec_written, reason) == 0);
+    CHECK(offsetof(struct srec_written, place) == 8);
+    CHECK(offsetof(struct srec_written, length) == 16);
+    CHECK(sizeof(struct srec_written) == 24);
+    CHECK(offsetof(struct srec_span, any) == 0);
+    CHECK(offsetof(struct srec_span, lowest) == 8);
+    CHECK(offsetof(struct srec_span, highest) == 16);
+    CHECK(sizeof(struct srec_span) == 24);
+    CHECK(offsetof(struct srec_origin, record) == 0);
+    CHECK(offsetof(struct srec_origin, place) == 8);
+    CHECK(offsetof(struct srec_origin, byte) == 16);
+    CHECK(sizeof(struct srec_origin) == 24);
+}
+
+int main(void)
+{
+    loaded();
+    others();
+    return failures != 0;
+}
