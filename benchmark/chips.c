@@ -5,20 +5,11 @@
 #include <string.h>
 #include <time.h>
 
+#include "srec.h"
+
 enum { CELLS = 1 << 24, CHIPS = 4, ROUNDS = 15 };
 
 static size_t cells = CELLS;
-
-/* crates/chips_c */
-uint32_t srec_deal_cells(size_t k, uint32_t base, const uint8_t *memory, size_t memory_len, const uint8_t *marks, size_t marks_len,
-                         uint8_t *memory0, size_t memory0_len, uint8_t *marks0, size_t marks0_len, uint8_t *memory1, size_t memory1_len,
-                         uint8_t *marks1, size_t marks1_len, uint8_t *memory2, size_t memory2_len, uint8_t *marks2, size_t marks2_len,
-                         uint8_t *memory3, size_t memory3_len, uint8_t *marks3, size_t marks3_len);
-uint32_t srec_collect_cells(size_t k, uint32_t base, uint8_t *memory, size_t memory_len, uint8_t *marks, size_t marks_len,
-                            const uint8_t *memory0, size_t memory0_len, const uint8_t *marks0, size_t marks0_len, const uint8_t *memory1,
-                            size_t memory1_len, const uint8_t *marks1, size_t marks1_len, const uint8_t *memory2, size_t memory2_len,
-                            const uint8_t *marks2, size_t marks2_len, const uint8_t *memory3, size_t memory3_len, const uint8_t *marks3,
-                            size_t marks3_len);
 
 static uint8_t memory[CELLS], marks[CELLS], back[CELLS], back_marks[CELLS];
 static uint8_t chip[CHIPS][CELLS / 2], chip_marks[CHIPS][CELLS / 2];
@@ -33,15 +24,17 @@ static double now(void)
 static uint32_t deal(size_t k)
 {
     size_t n = cells / k, rest = k == 4 ? n : 0;
-    return srec_deal_cells(k, 0, memory, cells, marks, cells, chip[0], n, chip_marks[0], n, chip[1], n, chip_marks[1], n, chip[2], rest,
-                           chip_marks[2], rest, chip[3], rest, chip_marks[3], rest);
+    return srec_deal(k, 0, memory, cells, marks, cells, chip[0], n, chip_marks[0], n, chip[1], n, chip_marks[1], n, chip[2], rest,
+                     chip_marks[2], rest, chip[3], rest, chip_marks[3], rest)
+        .reason;
 }
 
 static uint32_t collect(size_t k)
 {
     size_t n = cells / k, rest = k == 4 ? n : 0;
-    return srec_collect_cells(k, 0, back, cells, back_marks, cells, chip[0], n, chip_marks[0], n, chip[1], n, chip_marks[1], n, chip[2],
-                              rest, chip_marks[2], rest, chip[3], rest, chip_marks[3], rest);
+    return srec_collect(k, 0, back, cells, back_marks, cells, chip[0], n, chip_marks[0], n, chip[1], n, chip_marks[1], n, chip[2],
+                        rest, chip_marks[2], rest, chip[3], rest, chip_marks[3], rest)
+        .reason;
 }
 
 static uint32_t copy(size_t k)

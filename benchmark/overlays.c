@@ -4,14 +4,12 @@
 #include <string.h>
 
 #include "programs.h"
+#include "srec.h"
 
 /* crates/overlay_c: no part of include/srec.h. */
 size_t srec_look_length(uint32_t base, const uint8_t *base_memory, size_t base_memory_len, const uint8_t *base_marks,
                         size_t base_marks_len, const uint8_t *patch_memory, size_t patch_memory_len,
                         const uint8_t *patch_marks, size_t patch_marks_len, uint32_t address);
-uint32_t srec_merge_cells(uint32_t base, uint8_t *base_memory, size_t base_memory_len, uint8_t *base_marks,
-                          size_t base_marks_len, const uint8_t *patch_memory, size_t patch_memory_len,
-                          const uint8_t *patch_marks, size_t patch_marks_len);
 
 /* Every cell of the base is marked but one of 256; of the patch the first of so many. */
 enum { GAP = 256 };
@@ -70,7 +68,9 @@ static uint32_t merge(const struct trial *trial, uint8_t *memory, uint8_t *marks
 {
     size_t n = trial->cells;
 
-    return srec_merge_cells(BASE, memory, n, marks, n, trial->patch_memory, n, trial->patch_marks, n);
+    /* Neither image has a header or an entry. */
+    return srec_merge(BASE, memory, n, marks, n, NULL, 0, 0, 0, trial->patch_memory, n, trial->patch_marks, n, NULL, 0, 0, 0)
+        .reason;
 }
 
 static size_t look(const struct trial *trial, size_t from)
