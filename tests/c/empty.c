@@ -190,6 +190,19 @@ static void symbols(void)
     CHECK(memory[0] == 7 && marks[0] == 0);
 }
 
+/* No part at all, and parts without characters. */
+static void no_parts(void)
+{
+    struct srec_parts parts = srec_begin(UINT32_MAX, NULL, 0, NULL, 0);
+
+    CHECK(parts.reason == 0 && parts.total == 0);
+    LOADED(srec_end(parts, UINT32_MAX, NULL, 0, NULL, 0), refusal(14, 0, 0, 0));
+    parts = srec_feed(parts, NULL, 0, UINT32_MAX, NULL, 0, NULL, 0);
+    LOADED(srec_end(parts, UINT32_MAX, NULL, 0, NULL, 0), refusal(14, 0, 0, 0));
+    parts = srec_feed(parts, terminator, sizeof terminator, UINT32_MAX, NULL, 0, NULL, 0);
+    LOADED(srec_end(parts, UINT32_MAX, NULL, 0, NULL, 0), titled(accepted(0, 0), NULL, 0, 0));
+}
+
 int main(void)
 {
     empty_text();
@@ -205,5 +218,6 @@ int main(void)
     spans();
     images();
     symbols();
+    no_parts();
     return failures != 0;
 }

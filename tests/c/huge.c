@@ -78,6 +78,21 @@ static void refused_unseen_as_a_whole(void)
     munmap(hidden, length);
 }
 
+/* Row 20 refuses a part that is too long before it is looked at, row 1 another length of memory. */
+static void refused_unseen_parts(void)
+{
+    const size_t length = TOP + 16;
+    uint8_t *hidden = reserve(length, PROT_NONE);
+    uint8_t memory[4] = {0}, marks[4] = {1, 1, 1, 1};
+    struct srec_parts parts = srec_begin(0, memory, 4, marks, 4);
+
+    CHECK(srec_feed(parts, hidden, TOP, 0, memory, 4, marks, 4).reason == 20);
+    CHECK(srec_feed(parts, hidden, 1, 0, hidden, TOP + 4, marks, 4).reason == 1);
+    CHECK(srec_begin(0, hidden, TOP + 4, marks, 4).reason == 1);
+    LOADED(srec_end(parts, 0, hidden, TOP + 4, marks, 4), refusal(1, 0, 0, 0));
+    munmap(hidden, length);
+}
+
 static void refused_unseen_for_images(void)
 {
     const size_t length = TOP + 16, half = TOP / 2 + 2;
@@ -178,6 +193,7 @@ int main(void)
     refused_unseen();
     refused_unseen_for_tapes();
     refused_unseen_as_a_whole();
+    refused_unseen_parts();
     refused_unseen_for_images();
     long_record();
     long_tape();

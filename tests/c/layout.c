@@ -37,9 +37,33 @@ static void others(void)
     CHECK(sizeof(struct srec_origin) == 24);
 }
 
+/* 4, 1, 1 and 2 bytes of padding, 4, 4, ten times 8, 252 and 516: 864, a multiple of 8. */
+static void parts(void)
+{
+    CHECK(offsetof(struct srec_parts, reason) == 0);
+    CHECK(offsetof(struct srec_parts, want) == 4);
+    CHECK(offsetof(struct srec_parts, ended) == 5);
+    CHECK(offsetof(struct srec_parts, has_entry) == 8);
+    CHECK(offsetof(struct srec_parts, entry) == 12);
+    CHECK(offsetof(struct srec_parts, record) == 16);
+    CHECK(offsetof(struct srec_parts, place) == 24);
+    CHECK(offsetof(struct srec_parts, size) == 32);
+    CHECK(offsetof(struct srec_parts, total) == 40);
+    CHECK(offsetof(struct srec_parts, begins) == 48);
+    CHECK(offsetof(struct srec_parts, number) == 56);
+    CHECK(offsetof(struct srec_parts, records) == 64);
+    CHECK(offsetof(struct srec_parts, cells) == 72);
+    CHECK(offsetof(struct srec_parts, head) == 80);
+    CHECK(offsetof(struct srec_parts, held) == 88);
+    CHECK(offsetof(struct srec_parts, header) == 96);
+    CHECK(offsetof(struct srec_parts, line) == 348);
+    CHECK(sizeof(struct srec_parts) == 864);
+}
+
 int main(void)
 {
     loaded();
     others();
+    parts();
     return failures != 0;
 }

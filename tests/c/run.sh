@@ -85,7 +85,7 @@ for source in "$root"/tests/c/*.c "$examples/canonical.c" "$bin/shown-header.c" 
 done
 
 command -v valgrind >/dev/null 2>&1 || echo "no valgrind here: 'watched' means the compiler's run-time checks"
-for name in words layout empty tape answers span images symbols; do
+for name in words layout empty tape answers span images symbols parts; do
     check "$name, watched" watched "$name"
     check "$name, as C++" "$bin/$name++"
     check "$name, with run-time checks" "$bin/$name-checked"
