@@ -1,6 +1,6 @@
 /* answers: every field of the whole answer, for accepted texts and for each row that refuses a load or a write.
  *
- * What is expected was worked out by hand from docs/FORMAT.md: sections 3 and 4 for S-records, 11 for tapes, 5 for writes. */
+ * What is expected was worked out by hand from docs/FORMAT.md: sections 3, 4 and 5, and 11 for tapes. */
 #include <stdio.h>
 
 #include "answer.h"

@@ -315,7 +315,8 @@ static void check_span(const struct format *format, const struct window *window,
     while (end > first && window->marks[end - 1] == 0)
         end--;
     CHECK(span.any == (first < end));
-    CHECK(first == end || (span.lowest == window->base + (uint64_t)first && span.highest == window->base + (uint64_t)end - 1));
+    if (first < end)
+        CHECK(span.lowest - window->base == first && span.highest - window->base == end - 1);
     if (index < window->length) {
         CHECK((origin.record > 0) == window->marks[index]);
         CHECK(origin.record == 0 || origin.byte == window->memory[index]);
