@@ -38,6 +38,9 @@ static void accepted_records(void)
     const char text[] = "S00600004844521B\nS1050002AABB93\nS103FF00FD\nS9031234B6\n";
     struct window window;
 
+    /* Any other number is taken for S-records. */
+    LOADED(load_string(UINT32_MAX, text, 0, &window), titled(accepted(2, 2), "HDR", 3, 0x1234));
+    LOADED(load_string(SREC_RECORDS + 1, text, 0, &window), titled(accepted(2, 2), "HDR", 3, 0x1234));
     LOADED(load_string(SREC_RECORDS, text, 0, &window), titled(accepted(2, 2), "HDR", 3, 0x1234));
     for (size_t i = 0; i < CELLS; i++)
         CHECK(window.marks[i] == (i == 2 || i == 3) && (window.marks[i] == 1 || window.memory[i] == FILL));
@@ -75,11 +78,10 @@ static void longest_header(void)
 static void accepted_tapes(void)
 {
     const char tape[] = ";02FFFEAABB0364\r\n;01FFF0AA029A\r\n;0000020002\r\n";
-    const uint32_t formats[] = {SREC_TAPE_REPEAT, SREC_TAPE_SUM, 3, UINT32_MAX};
     struct window window;
 
-    for (size_t i = 0; i < sizeof formats / sizeof formats[0]; i++) {
-        LOADED(load_string(formats[i], tape, 0xFFF0, &window), accepted(2, 3));
+    for (uint32_t format = SREC_TAPE_REPEAT; format <= SREC_TAPE_SUM; format++) {
+        LOADED(load_string(format, tape, 0xFFF0, &window), accepted(2, 3));
         CHECK(window.memory[0] == 0xAA && window.memory[14] == 0xAA && window.memory[15] == 0xBB);
         CHECK(window.marks[0] == 1 && all(window.marks + 1, 13, 0) && all(window.marks + 14, 2, 1));
     }
@@ -136,6 +138,7 @@ static void refused_records(void)
     };
 
     check_refused(SREC_RECORDS, 0, refused, sizeof refused / sizeof refused[0]);
+    check_refused(UINT32_MAX, 0, refused, sizeof refused / sizeof refused[0]);
 }
 
 /* In the cells FFF0 to FFFF. Row 7 has no right byte here. */
@@ -164,7 +167,6 @@ static void refused_tapes(void)
     check_refused(SREC_TAPE_SUM, 0xFFF0, refused, sizeof refused / sizeof refused[0]);
     check_refused(SREC_TAPE_REPEAT, 0xFFF0, repeat, 2);
     check_refused(SREC_TAPE_SUM, 0xFFF0, sum, 2);
-    check_refused(UINT32_MAX, 0xFFF0, sum, 2);
 }
 
 /* Row 3, one character too long, behind a line end; without that character it is row 5, at its third character. */
@@ -190,7 +192,7 @@ static void refused_window(void)
     const uint8_t text[] = "x";
     struct window window;
 
-    for (uint32_t format = SREC_RECORDS; format <= SREC_TAPE_SUM; format++) {
+    for (uint32_t format = SREC_TAPE_REPEAT; format <= SREC_RECORDS; format++) {
         memset(&window, FILL, sizeof window);
         LOADED(srec_load_as(format, text, 1, 0, window.memory, CELLS, window.marks, CELLS - 1), refusal(1, 0, 0, 0));
         CHECK(all(window.memory, CELLS, FILL) && all(window.marks, CELLS - 1, 0) && window.marks[CELLS - 1] == FILL);
@@ -239,31 +241,31 @@ static void check_write(uint32_t format, struct image image, size_t room, uint32
 #define WRITE(format, image, room, reason, place, text) check_write(format, image, room, reason, place, text, __LINE__)
 
 /* 50 characters. Each change is taken with the later ones, so that the order of the rows shows: 17, 18, 16, 15, 1. */
-static void write_records(void)
+static void write_records(uint32_t format)
 {
     const char text[] = "S004000041BA\nS1050000AABB95\nS5030001FB\nS9030010EC\n";
     struct image image = {0, {0xAA, 0xBB}, {1, 1}, 2, 1, 1};
 
-    WRITE(SREC_RECORDS, image, ROOM, 0, 0, text);
-    WRITE(SREC_RECORDS, image, 50, 0, 0, text);
-    WRITE(SREC_RECORDS, image, 49, 17, 50, "");
-    WRITE(SREC_RECORDS, image, 0, 17, 50, "");
+    WRITE(format, image, ROOM, 0, 0, text);
+    WRITE(format, image, 50, 0, 0, text);
+    WRITE(format, image, 49, 17, 50, "");
+    WRITE(format, image, 0, 17, 50, "");
     image.has_entry = UINT32_MAX;
-    WRITE(SREC_RECORDS, image, 50, 0, 0, text);
+    WRITE(format, image, 50, 0, 0, text);
     image.has_entry = 0;
-    WRITE(SREC_RECORDS, image, 0, 18, 0, "");
-    WRITE(SREC_RECORDS, image, ROOM, 18, 0, "");
+    WRITE(format, image, 0, 18, 0, "");
+    WRITE(format, image, ROOM, 18, 0, "");
     image.marks[1] = 2;
-    WRITE(SREC_RECORDS, image, 0, 16, 1, "");
+    WRITE(format, image, 0, 16, 1, "");
     image.marks[0] = 255;
-    WRITE(SREC_RECORDS, image, 0, 16, 0, "");
+    WRITE(format, image, 0, 16, 0, "");
     image.header_len = LONGEST_HEADER + 1;
-    WRITE(SREC_RECORDS, image, 0, 15, 0, "");
+    WRITE(format, image, 0, 15, 0, "");
     image.marks_len = 1;
-    WRITE(SREC_RECORDS, image, 0, 1, 0, "");
+    WRITE(format, image, 0, 1, 0, "");
     image.marks_len = 2;
     image.base = UINT32_MAX;
-    WRITE(SREC_RECORDS, image, 0, 1, 0, "");
+    WRITE(format, image, 0, 1, 0, "");
 }
 
 /* 28 characters, for the cell FFFF; the one behind it is above a tape. The rows: 17, 11, 19, 16, 1. */
@@ -316,10 +318,10 @@ int main(void)
     refused_tapes();
     refused_length();
     refused_window();
-    write_records();
+    write_records(SREC_RECORDS);
+    write_records(UINT32_MAX);
     write_tapes(SREC_TAPE_REPEAT);
     write_tapes(SREC_TAPE_SUM);
-    write_tapes(UINT32_MAX);
     write_longest_header();
     return failures != 0;
 }

@@ -121,7 +121,7 @@ static void write_tapes(void)
 
 static void whole_loads(void)
 {
-    for (uint32_t format = SREC_RECORDS; format <= SREC_TAPE_SUM; format++) {
+    for (uint32_t format = SREC_TAPE_REPEAT; format <= SREC_RECORDS; format++) {
         LOADED(srec_load_as(format, NULL, 0, 0, NULL, 0, NULL, 0), refusal(14, 0, 0, 0));
         LOADED(srec_load_as(format, NULL, 0, UINT32_MAX, NULL, 0, NULL, 0), refusal(14, 0, 0, 0));
     }
@@ -149,7 +149,7 @@ static void whole_writes(void)
 
 static void spans(void)
 {
-    for (uint32_t format = SREC_RECORDS; format <= SREC_TAPE_SUM; format++) {
+    for (uint32_t format = SREC_TAPE_REPEAT; format <= SREC_RECORDS; format++) {
         CHECK(srec_span(format, NULL, 0).any == 0);
         CHECK(srec_where(format, NULL, 0, 0).record == 0);
     }
@@ -182,6 +182,7 @@ static void symbols(void)
 {
     uint8_t memory[1] = {7}, marks[1] = {7};
 
+    CHECK(srec_behind(NULL, 0) == 0 && srec_behind(block, sizeof block) == sizeof block);
     LOADED(srec_load_behind(NULL, 0, 0, NULL, 0, NULL, 0), refusal(22, 0, 0, 0));
     LOADED(srec_load_behind(block, sizeof block, 0, NULL, 0, NULL, 0), refusal(14, 0, 0, 0));
     LOADED(srec_load_sheet(NULL, 0, NULL, 0, 0, NULL, 0, NULL, 0), refusal(22, 0, 0, 0));
@@ -196,11 +197,11 @@ static void no_parts(void)
     struct srec_parts parts = srec_begin(UINT32_MAX, NULL, 0, NULL, 0);
 
     CHECK(parts.reason == 0 && parts.total == 0);
-    LOADED(srec_end(parts, UINT32_MAX, NULL, 0, NULL, 0), refusal(14, 0, 0, 0));
+    LOADED(srec_end(parts, UINT32_MAX, NULL, 0, NULL, 0).loaded, refusal(14, 0, 0, 0));
     parts = srec_feed(parts, NULL, 0, UINT32_MAX, NULL, 0, NULL, 0);
-    LOADED(srec_end(parts, UINT32_MAX, NULL, 0, NULL, 0), refusal(14, 0, 0, 0));
+    LOADED(srec_end(parts, UINT32_MAX, NULL, 0, NULL, 0).loaded, refusal(14, 0, 0, 0));
     parts = srec_feed(parts, terminator, sizeof terminator, UINT32_MAX, NULL, 0, NULL, 0);
-    LOADED(srec_end(parts, UINT32_MAX, NULL, 0, NULL, 0), titled(accepted(0, 0), NULL, 0, 0));
+    LOADED(srec_end(parts, UINT32_MAX, NULL, 0, NULL, 0).loaded, titled(accepted(0, 0), NULL, 0, 0));
 }
 
 int main(void)

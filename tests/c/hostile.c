@@ -114,7 +114,7 @@ enum { RECORDS = sizeof records / sizeof records[0], LINES = sizeof lines / size
 /* Whether a text is to be one of a tape's lines; seldom it is what was not asked for. */
 static int draw_lines(char kind)
 {
-    int wanted = kind == 'l' || (kind == 't' && told.format != SREC_RECORDS);
+    int wanted = kind == 'l' || (kind == 't' && told.format <= SREC_TAPE_SUM);
     return draw(8) ? wanted : !wanted;
 }
 
@@ -277,7 +277,9 @@ static uint32_t feed_parts(void)
 static uint32_t end_parts(void)
 {
     struct srec_parts state = draw_state(lent[0].length);
-    struct srec_loaded got = srec_end(state, told.base, LENT(0), LENT(1));
+    struct srec_ended ended = srec_end(state, told.base, LENT(0), LENT(1));
+    struct srec_loaded got = ended.loaded;
+    CHECK(state_row(state, ended.parts) == (state.reason == 0 ? got.reason : (uint32_t)SKIPPED));
     CHECK(state.reason == 0 || (got.reason == state.reason && got.record == state.record && got.place == state.place));
     return state.reason == 0 ? row_of(got) : (uint32_t)SKIPPED;
 }
@@ -313,6 +315,13 @@ static uint32_t where(void)
     CHECK(got.record <= lent[0].length && got.place <= lent[0].length && got.byte <= 255);
     CHECK(got.record > 0 || (got.place == 0 && got.byte == 0));
     return got.record == 0;
+}
+
+static uint32_t behind(void)
+{
+    size_t got = srec_behind(LENT(0));
+    CHECK(got <= lent[0].length);
+    return got == lent[0].length;
 }
 
 static uint32_t span_sheet(void)
@@ -372,6 +381,7 @@ static const struct call calls[] = {
     {"srec_collect", "MJmkmkmkmk", collect, ROWS(1, 1) | ROWS(16, 16) | ROWS(21, 21)},
     {"srec_load_behind", "bMK", load_behind, ROWS(1, 8) | ROWS(10, 14) | ROWS(22, 24)},
     {"srec_load_sheet", "bsMK", load_sheet, ROWS(1, 1) | ROWS(12, 13) | ROWS(22, 27)},
+    {"srec_behind", "b", behind, ROWS(1, 1)},
     {"srec_span_sheet", "bs", span_sheet, ROWS(1, 1)},
     {"srec_begin", "mP", begin_parts, ROWS(1, 1)},
     {"srec_feed", "rNP", feed_parts, ROWS(1, 8) | ROWS(10, 13) | ROWS(20, 20)},

@@ -66,7 +66,7 @@ static void refused_unseen_as_a_whole(void)
     uint8_t *hidden = reserve(length, PROT_NONE);
     uint8_t marks[4] = {1, 1, 1, 1};
 
-    for (uint32_t format = SREC_RECORDS; format <= SREC_TAPE_SUM; format++) {
+    for (uint32_t format = SREC_TAPE_REPEAT; format <= SREC_RECORDS; format++) {
         LOADED(srec_load_as(format, hidden, TOP, 0, hidden, TOP + 4, marks, 4), refusal(1, 0, 0, 0));
         WRITTEN(srec_room(format, 0, hidden, TOP + 1, hidden, TOP + 1, hidden, TOP, 1, 0), 1, 0, 0);
         WRITTEN(srec_write_as(format, 1, hidden, TOP, hidden, TOP, hidden, TOP, 1, 0, hidden, TOP), 1, 0, 0);
@@ -89,7 +89,7 @@ static void refused_unseen_parts(void)
     CHECK(srec_feed(parts, hidden, TOP, 0, memory, 4, marks, 4).reason == 20);
     CHECK(srec_feed(parts, hidden, 1, 0, hidden, TOP + 4, marks, 4).reason == 1);
     CHECK(srec_begin(0, hidden, TOP + 4, marks, 4).reason == 1);
-    LOADED(srec_end(parts, 0, hidden, TOP + 4, marks, 4), refusal(1, 0, 0, 0));
+    LOADED(srec_end(parts, 0, hidden, TOP + 4, marks, 4).loaded, refusal(1, 0, 0, 0));
     munmap(hidden, length);
 }
 

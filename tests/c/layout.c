@@ -60,10 +60,19 @@ static void parts(void)
     CHECK(sizeof(struct srec_parts) == 864);
 }
 
+/* 312 and 864 bytes. */
+static void ended(void)
+{
+    CHECK(offsetof(struct srec_ended, loaded) == 0);
+    CHECK(offsetof(struct srec_ended, parts) == 312);
+    CHECK(sizeof(struct srec_ended) == 1176);
+}
+
 int main(void)
 {
     loaded();
     others();
     parts();
+    ended();
     return failures != 0;
 }

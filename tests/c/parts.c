@@ -23,7 +23,7 @@ static struct srec_parts feed(struct srec_parts parts, const char *part, size_t 
 
 static struct srec_loaded end(struct srec_parts parts, struct window *window)
 {
-    return srec_end(parts, 0, window->memory, CELLS, window->marks, CELLS);
+    return srec_end(parts, 0, window->memory, CELLS, window->marks, CELLS).loaded;
 }
 
 /* In parts of one length; of length 0 all at once, behind a part without characters. */
@@ -105,7 +105,7 @@ static void refused_calls(void)
     struct window window;
     struct srec_parts parts = begin(&window), far;
 
-    LOADED(srec_end(parts, 0, window.memory, CELLS - 1, window.marks, CELLS - 1), refusal(1, 0, 0, 0));
+    LOADED(srec_end(parts, 0, window.memory, CELLS - 1, window.marks, CELLS - 1).loaded, refusal(1, 0, 0, 0));
     CHECK(srec_feed(parts, NULL, 0, 0, window.memory, CELLS, window.marks, CELLS - 1).reason == 1);
     CHECK(srec_begin(0, window.memory, CELLS, window.marks, CELLS - 1).reason == 1);
     CHECK(srec_begin(UINT32_MAX, window.memory, CELLS, window.marks, CELLS).reason == 1);
@@ -121,10 +121,31 @@ static void refused_calls(void)
     LOADED(end(far, &window), refusal(1, 0, 0, 0));
 }
 
+/* Behind an accepted end the same end gives the same answer, and a record is one too many; a refused end stays refused. */
+static void behind_the_end(void)
+{
+    const char text[] = "S1040000AA51\nS9031234B6";
+    struct window window;
+    struct srec_ended ended = srec_end(feed(begin(&window), text, sizeof text - 1, &window), 0, window.memory, CELLS,
+                                       window.marks, CELLS);
+
+    LOADED(ended.loaded, titled(accepted(1, 1), NULL, 0, 0x1234));
+    CHECK(ended.parts.reason == 0 && ended.parts.total == 23);
+    LOADED(end(ended.parts, &window), titled(accepted(1, 1), NULL, 0, 0x1234));
+    LOADED(end(feed(ended.parts, "\r\n", 2, &window), &window), titled(accepted(1, 1), NULL, 0, 0x1234));
+    LOADED(end(feed(ended.parts, "x", 1, &window), &window), refusal(2, 0, 3, 23));
+    ended = srec_end(begin(&window), 0, window.memory, CELLS, window.marks, CELLS);
+    LOADED(ended.loaded, refusal(14, 0, 0, 0));
+    CHECK(ended.parts.reason == 14);
+    LOADED(end(feed(ended.parts, text, sizeof text - 1, &window), &window), refusal(14, 0, 0, 0));
+    CHECK(all(window.memory, CELLS, FILL) && all(window.marks, CELLS, 0));
+}
+
 int main(void)
 {
     texts();
     when_it_is_stored();
     refused_calls();
+    behind_the_end();
     return failures != 0;
 }

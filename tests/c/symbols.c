@@ -117,6 +117,21 @@ static void too_many_symbols(void)
     LOADED(load_behind(text, &window), titled(accepted(0, 0), NULL, 0, 0));
 }
 
+/* The records begin right behind the bare $$, with its line end; a refused block is as long as the text. */
+static void where_the_records_begin(void)
+{
+    static const struct {
+        size_t place;
+        const char *text;
+    } texts[] = {
+        {7, "$$ M\n$$\nS9030000FC"}, {7, "$$ M\n$$"}, {14, "\n$$ M\r\na $1\n$$\r\n$$\n"}, {0, ""}, {10, "S9030000FC"},
+        {9, "$$ M\na $1"}, {17, "$$ M\na $1\na $2\n$$"},
+    };
+
+    for (size_t i = 0; i < sizeof texts / sizeof texts[0]; i++)
+        CHECK(srec_behind((const uint8_t *)texts[i].text, strlen(texts[i].text)) == texts[i].place);
+}
+
 /* ---- patch sheets ---- */
 
 static const uint8_t block[] = "$$ M\nt $2 u $FFFFFFFF\n$$\nnothing behind it is read";
@@ -231,6 +246,7 @@ int main(void)
     behind_accepted();
     behind_refused();
     too_many_symbols();
+    where_the_records_begin();
     sheet_accepted();
     sheet_refused();
     sheet_behind_a_bad_block();
