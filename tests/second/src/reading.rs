@@ -209,7 +209,7 @@ pub(crate) struct Record<'a> {
 /// Takes a text apart into its lines.
 pub(crate) type Records = fn(&[u8]) -> Vec<Record<'_>>;
 
-fn records(text: &[u8]) -> Vec<Record<'_>> {
+pub(crate) fn records(text: &[u8]) -> Vec<Record<'_>> {
     lines(&SREC, text)
 }
 
@@ -297,7 +297,7 @@ impl Record<'_> {
         self.number(1..1 + self.width())
     }
 
-    fn data(&self) -> Vec<u8> {
+    pub fn data(&self) -> Vec<u8> {
         let first = 1 + self.width();
         (first..self.last()).map(|index| self.byte(index)).collect()
     }
@@ -407,7 +407,7 @@ pub(crate) fn row_13(reader: &Reader, record: &Record) -> bool {
 }
 
 impl Reader {
-    fn new(base: u32, length: usize) -> Reader {
+    pub fn new(base: u32, length: usize) -> Reader {
         Reader {
             base: u64::from(base),
             cells: vec![None; length],
@@ -424,7 +424,7 @@ impl Reader {
         found.map(|&(number, _)| number)
     }
 
-    fn all_rows(&self, record: &Record) -> Vec<u32> {
+    pub fn all_rows(&self, record: &Record) -> Vec<u32> {
         let rows = record.format.rows.iter();
         let found = rows.filter(|(_, applies)| applies(self, record));
         found.map(|&(number, _)| number).collect()
@@ -438,15 +438,22 @@ impl Reader {
 
     /// Takes in a record to which no row applies.
     fn take(&mut self, record: &Record) {
+        self.pass(record);
+        if record.is(Role::Data) {
+            for (address, byte) in (record.address()..).zip(record.data()) {
+                self.cells[(address - self.base) as usize] = Some(byte);
+            }
+        }
+    }
+
+    /// Takes in all of a record but its cells.
+    pub fn pass(&mut self, record: &Record) {
         self.taken += 1;
         if record.is(Role::Header) {
             self.header = record.data();
         }
         if record.is(Role::Data) {
             self.data_records += 1;
-            for (address, byte) in (record.address()..).zip(record.data()) {
-                self.cells[(address - self.base) as usize] = Some(byte);
-            }
         }
         if record.is(Role::Terminator) {
             self.entry = Some(record.address() as u32);
@@ -498,11 +505,7 @@ pub(crate) type WriteRow<'a> = (u32, &'a dyn Fn() -> Option<usize>);
 
 /// Refuses by the first row that has a place, or by row 17 if there is no room
 /// for the text, and leaves the output as it was then. Else the text is written.
-pub(crate) fn write_text(
-    rows: &[WriteRow],
-    text: impl Fn() -> Vec<u8>,
-    out: &mut [u8],
-) -> Written {
+pub(crate) fn write_text(rows: &[WriteRow], text: impl Fn() -> Vec<u8>, out: &mut [u8]) -> Written {
     // No refusal of the writer is about a record.
     let refused = |number, place| Written {
         refusal: Refusal {

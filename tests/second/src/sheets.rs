@@ -52,16 +52,16 @@ pub fn load_sheet(
 }
 
 /// A field, its number from 1 among all of them, and the place of its tag.
-struct Field<'a> {
+pub(crate) struct Field<'a> {
     number: usize,
     place: usize,
-    bytes: &'a [u8],
+    pub bytes: &'a [u8],
 }
 
 impl<'a> Field<'a> {
     /// The field that must have this tag. Row 25 applies if it does not, or if the
     /// sheet ends before the field does.
-    fn at(sheet: &'a [u8], number: usize, place: usize, tag: u8) -> Result<Field<'a>, Refusal> {
+    pub fn at(sheet: &'a [u8], number: usize, place: usize, tag: u8) -> Result<Field<'a>, Refusal> {
         let bytes = match sheet[place..] {
             [found, high, low, ref rest @ ..] if found == tag => {
                 let length = u16::from_be_bytes([high, low]);
@@ -78,7 +78,7 @@ impl<'a> Field<'a> {
     }
 
     /// Where the next field begins.
-    fn end(&self) -> usize {
+    pub fn end(&self) -> usize {
         self.place + HEAD + self.bytes.len()
     }
 

@@ -88,7 +88,7 @@ const fn format(rows: &'static [(u32, Row)]) -> Format {
     }
 }
 
-fn tape_lines(edition: Edition) -> Records {
+pub(crate) fn tape_lines(edition: Edition) -> Records {
     match edition {
         Edition::Repeat => |text| lines(&REPEAT, text),
         Edition::Sum => |text| lines(&SUM, text),
