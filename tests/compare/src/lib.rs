@@ -9,13 +9,15 @@
 //! that program what must hold of merges in any grouping and order, and `errors` of
 //! `vectors` what must come of a changed digit. `chips` compares images dealt over
 //! chips, by way of the program `deals`, and `symbolic` texts behind symbol blocks and
-//! patch sheets, by way of the program `symbolic`. `examples` holds the files of the
+//! patch sheets, by way of the program `symbolic`. `face` compares all functions of C that
+//! give whole answers (`whole`). `examples` holds the files of the
 //! examples folder to the second reading.
 
 pub mod answers;
 pub mod chips;
 pub mod errors;
 pub mod examples;
+pub mod face;
 pub mod format;
 pub mod grouping;
 pub mod loads;
@@ -33,5 +35,6 @@ mod program;
 mod tally;
 mod texts;
 mod walks;
+mod whole;
 
 pub use guarded::guards_notice;

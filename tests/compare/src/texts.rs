@@ -62,7 +62,7 @@ fn width_of_all(content: &Content) -> usize {
 }
 
 /// The fewest bytes that hold an address.
-fn width_of(address: u64) -> usize {
+pub fn width_of(address: u64) -> usize {
     match address {
         0..=0xFFFF => 2,
         0x1_0000..=0xFF_FFFF => 3,
@@ -70,11 +70,11 @@ fn width_of(address: u64) -> usize {
     }
 }
 
-fn data_record(width: usize, address: u64, data: &[u8]) -> Vec<u8> {
+pub fn data_record(width: usize, address: u64, data: &[u8]) -> Vec<u8> {
     record(b'0' + width as u8 - 1, width, address, data)
 }
 
-fn record(kind: u8, width: usize, address: u64, data: &[u8]) -> Vec<u8> {
+pub fn record(kind: u8, width: usize, address: u64, data: &[u8]) -> Vec<u8> {
     let mut bytes = vec![(width + data.len() + 1) as u8];
     bytes.extend(&address.to_be_bytes()[8 - width..]);
     bytes.extend(data);
@@ -103,7 +103,7 @@ pub fn tape_of(edition: Edition, content: &Content, random: &mut Random) -> Vec<
     styled(random, &lines, &ends)
 }
 
-fn data_line(address: u16, data: &[u8]) -> Vec<u8> {
+pub fn data_line(address: u16, data: &[u8]) -> Vec<u8> {
     let mut bytes = vec![data.len() as u8];
     bytes.extend(address.to_be_bytes());
     bytes.extend(data);
@@ -111,7 +111,7 @@ fn data_line(address: u16, data: &[u8]) -> Vec<u8> {
     [b";", &digits(&bytes)[..]].concat()
 }
 
-fn last_line(edition: Edition, number: u16) -> Vec<u8> {
+pub fn last_line(edition: Edition, number: u16) -> Vec<u8> {
     let check = match edition {
         Edition::Repeat => number,
         Edition::Sum => sum(&number.to_be_bytes()) as u16,
