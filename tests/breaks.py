@@ -3,10 +3,10 @@
 
     python3 tests/breaks.py [NAME...]     a NAME is an edit's, or a KIND, for all edits of it and for none
 
-An edit of kind 'library' breaks a library: tests/second under the face of include/srec.h (breaks/library/face.rs), so no
-archive and no prover is needed. tests/compare must notice, or tests/c where that does not. An edit of kind 'answers' breaks
-tests/second itself in what the C face does not show; tests/compare must notice that by way of the program vectors, which `rt
-check vectors` builds (and `rt staticlib capi` the archive that tests/compare links). An edit of kind 'parts' breaks it in
+An edit of kind 'library' breaks a library: tests/second under the face of include/srec.h (breaks/library/face.rs and
+whole.rs), so no archive and no prover is needed. tests/compare must notice, or tests/c where that does not. An edit of kind
+'answers' breaks tests/second itself in what the row alone does not show; tests/compare must notice that by way of the program
+vectors, which `rt check vectors` builds (and `make` the archive that tests/compare links). An edit of kind 'parts' breaks it in
 loads in parts, and tests/compare must notice that by way of the program calls. An edit of kind 'overlay' breaks it in patches
 over a base image; tests/compare must notice that by way of the program patches, and so must the oracle's own tests, and its
 test of the cases of crates/patches. An edit of kind 'packed' breaks it in packed marks; tests/compare must notice that by way
@@ -15,7 +15,8 @@ kind 'errors' breaks it in how it takes single errors; there it stands in for th
 notice. An edit of kind 'chips' breaks it in images over chips; tests/compare must notice that by way of the program deals,
 and so must the oracle's own tests, and its test of the cases of crates/deals. An edit of kind 'symbols' breaks it in symbol
 blocks, address expressions and patch sheets; tests/compare must notice that by way of the program symbolic, and so must the
-oracle's own tests, and its test of the cases of crates/symbolic. An edit of kind 'calls' breaks the crates themselves; the
+oracle's own tests, and its test of the cases of crates/symbolic. An edit of kind 'face' breaks it in spans, origins and rooms;
+tests/compare must notice that by way of the archive, and so must the oracle's own tests. An edit of kind 'calls' breaks the crates themselves; the
 program calls is compiled with it, without a proof, and the cases of crates/calls must notice. An edit of kind 'patches' does
 so with the program patches; the cases of crates/patches must notice, and so must the first cases that tests/compare draws, by
 the oracle's answers: `rt try` leaves no program that tests/compare itself could run. An edit names a file and replaces text
@@ -39,8 +40,10 @@ TARGET = TESTS.parent / "target"
 READING = TESTS / "second" / "src"
 # what tests/compare takes if nothing else is named
 PROGRAMS = ("VECTORS", "CALLS", "PATCHES", "DEALS", "SYMBOLIC")
-BUILT = {name: TARGET / "bin" / name.lower() for name in PROGRAMS} | {"SREC_LIB_DIR": TARGET / "staticlib"}
-SOURCES = [READING / "reading.rs", READING / "tape.rs", BREAKS / "library" / "face.rs", TESTS.parent / "include" / "srec.h"]
+BUILT = {name: TARGET / "bin" / name.lower() for name in PROGRAMS} | {"SREC_LIB_DIR": TARGET}
+READ = ("chips", "expressions", "overlay", "reading", "sheets", "spans", "symbols", "tape")
+FACE = (BREAKS / "library" / "face.rs", BREAKS / "library" / "whole.rs", TESTS.parent / "include" / "srec.h")
+SOURCES = [*(READING / f"{name}.rs" for name in READ), *FACE]
 # fewer than in the usual runs: what is wrong is noticed soon
 SEED, CASES = "1", "20000"
 # a case of errors is a text for each digit
@@ -91,15 +94,16 @@ def drawn(package, test):
 
 
 def library(edit, folder):
-    """Builds libcapi.a and srec.h, edited, and gives which checks of which test notice."""
+    """Builds libsrec.a and srec.h, edited, and gives which checks of which test notice."""
     for source in SOURCES:
         shutil.copy(source, folder)
     if edit:
         apply(edit, folder)
-    command = "rustc --edition 2021 -O -A warnings --crate-name capi --crate-type staticlib face.rs -o libcapi.a"
+    command = "rustc --edition 2021 -O -A warnings --crate-name srec --crate-type staticlib face.rs -o libsrec.a"
     subprocess.run(command.split(), cwd=folder, check=True)
     places = {"SREC_LIB_DIR": str(folder), "SREC_INCLUDE_DIR": str(folder)}
-    for name, command in (("compare", drawn(TESTS / "compare", "compare")), ("c", ["sh", str(TESTS / "c" / "run.sh")])):
+    compared = ((name, drawn(TESTS / "compare", name)) for name in ("compare", "face"))
+    for name, command in (*compared, ("c", ["sh", str(TESTS / "c" / "run.sh")])):
         found = failures(command, places)
         if found:
             return f"{name}: " + "; ".join(found)
@@ -185,6 +189,11 @@ def symbols(edit, folder):
     return second(edit, folder, ("compare", "symbolic"), ("second", "sheets"), ("second", "symbolic"))
 
 
+def face(edit, folder):
+    """Spans, origins and rooms, by the archive and by the oracle's tests."""
+    return second(edit, folder, ("compare", "face"), ("second", "spans"))
+
+
 def edited(edit, folder):
     """Copies the crates, edited."""
     shutil.copy(TESTS.parent / "crates.txt", folder)
@@ -252,7 +261,7 @@ def try_edit(kind, edit):
 def main():
     names = sys.argv[1:]
     results = []
-    for kind in (library, answers, parts, overlay, packed, errors, chips, symbols, calls, patches):
+    for kind in (library, answers, parts, overlay, packed, errors, chips, symbols, face, calls, patches):
         edits = [None, *sorted((BREAKS / kind.__name__).glob("*.edit"))]
         whole = not names or kind.__name__ in names
         results += [try_edit(kind, edit) for edit in edits if whole or edit and edit.stem in names]

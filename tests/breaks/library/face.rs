@@ -1,7 +1,14 @@
 //! The functions of include/srec.h over a copy of the second reading, to be edited wrongly.
 
+mod chips;
+mod expressions;
+mod overlay;
 mod reading;
+mod sheets;
+mod spans;
+mod symbols;
 mod tape;
+mod whole;
 
 use std::slice::{from_raw_parts, from_raw_parts_mut};
 

@@ -1,7 +1,7 @@
 //! Whole answers, by the program `vectors` and by the second reading: record
-//! number, place, right checksum, header, entry and counts, which the C face
-//! does not give. Texts of both formats are drawn, and tapes of both editions, some
-//! of them with packed marks, which are compared, too.
+//! number, place, right checksum, header, entry and counts. Texts of both formats are
+//! drawn, and tapes of both editions, some of them with packed marks, which are
+//! compared, too.
 
 use crate::format::{Format, FORMATS};
 use crate::program::{Batch, VECTORS};

@@ -18,7 +18,7 @@ pub struct Format {
     pub wanted: &'static Drawing,
     /// One of so many cases is drawn: tapes, with one width and two editions, need fewer.
     pub one_of: u64,
-    /// What a write can answer from C.
+    /// What a write can answer that C asks for by its length alone.
     pub write_numbers: &'static [u32],
     /// Cases with about as many lines as the editions agree on, and how many.
     pub numbered: fn(u64) -> Vec<(usize, LoadCase)>,
@@ -118,7 +118,7 @@ impl Format {
         settings.share(percent) / self.one_of
     }
 
-    /// A write as C can ask for it: S-records always with an entry, the base for
+    /// A write as C can ask for its length alone: S-records always with an entry, the base for
     /// want of another, and a tape without header and entry. So rows 18 and 19
     /// do not apply, and all others do.
     pub fn write_from_c(&self, seed: u64, index: u64, limits: Limits) -> WriteCase {

@@ -9,9 +9,9 @@
 //! that program what must hold of merges in any grouping and order, and `errors` of
 //! `vectors` what must come of a changed digit. `chips` compares images dealt over
 //! chips, by way of the program `deals`, and `symbolic` texts behind symbol blocks and
-//! patch sheets, by way of the program `symbolic`. `face` compares all functions of C that
-//! give whole answers (`whole`). `examples` holds the files of the
-//! examples folder to the second reading.
+//! patch sheets, by way of the program `symbolic`. `face` compares all functions of C
+//! that give whole answers (`whole`). `examples` holds the files of the examples folder
+//! to the second reading.
 
 pub mod answers;
 pub mod chips;

@@ -48,7 +48,8 @@ pub fn full(settings: &Settings) -> Result<String, String> {
 fn drawn(seed: u64, cases: u64, size: Size) -> Result<String, String> {
     let mut counts = Counts {
         calls: CALLS.map(|call| (call, Tally::of(call.wanted(size)))),
-        rows: Tally::of(ROWS),
+        // Only a large block has too many symbols.
+        rows: Tally::of(ROWS.into_iter().filter(|row| size.large || *row != 24)),
         spans: Tally::of(SPANS),
     };
     for index in 0..cases {
