@@ -41,7 +41,7 @@ READING = TESTS / "second" / "src"
 # what tests/compare takes if nothing else is named
 PROGRAMS = ("VECTORS", "CALLS", "PATCHES", "DEALS", "SYMBOLIC")
 BUILT = {name: TARGET / "bin" / name.lower() for name in PROGRAMS} | {"SREC_LIB_DIR": TARGET}
-READ = ("chips", "expressions", "overlay", "reading", "sheets", "spans", "symbols", "tape")
+READ = ("chips", "expressions", "overlay", "parts", "reading", "sheets", "spans", "symbols", "tape")
 FACE = (BREAKS / "library" / "face.rs", BREAKS / "library" / "whole.rs", TESTS.parent / "include" / "srec.h")
 SOURCES = [*(READING / f"{name}.rs" for name in READ), *FACE]
 # fewer than in the usual runs: what is wrong is noticed soon

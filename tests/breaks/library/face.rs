@@ -3,6 +3,7 @@
 mod chips;
 mod expressions;
 mod overlay;
+mod parts;
 mod reading;
 mod sheets;
 mod spans;

@@ -2,6 +2,7 @@
 
 use crate::chips::{self, Buffers, CHIPS};
 use crate::overlay::{self, Image, Title};
+use crate::parts::{self, State, MOST};
 use crate::reading::{self, Refusal, Writer, HEADER_ROOM};
 use crate::sheets::load_sheet;
 use crate::spans;
@@ -359,4 +360,121 @@ pub unsafe extern "C" fn srec_span_sheet(
     sheet_len: usize,
 ) -> Span {
     span(spans::span_sheet(lent(text, text_len), lent(sheet, sheet_len)))
+}
+
+/// The most characters of a record that are held.
+const HELD: usize = 516;
+
+#[repr(C)]
+pub struct Parts {
+    reason: u32,
+    want: u8,
+    ended: u8,
+    has_entry: u32,
+    entry: u32,
+    record: usize,
+    place: usize,
+    size: usize,
+    total: usize,
+    begins: usize,
+    number: usize,
+    records: usize,
+    cells: usize,
+    head: usize,
+    held: usize,
+    header: [u8; HEADER_ROOM],
+    line: [u8; HELD],
+}
+
+fn given(state: &State) -> Parts {
+    let refusal = state.refusal.unwrap_or_default();
+    let mut line = [0; HELD];
+    line[..state.line.len()].copy_from_slice(&state.line);
+    Parts {
+        reason: refusal.number,
+        want: refusal.want,
+        ended: u8::from(state.entry.is_some()),
+        has_entry: u32::from(state.entry.is_some()),
+        entry: state.entry.unwrap_or(0),
+        record: refusal.record,
+        place: refusal.place,
+        size: state.size,
+        total: state.total,
+        begins: state.place,
+        number: state.complete,
+        records: state.data_records,
+        cells: state.cells,
+        head: state.head,
+        held: state.line.len(),
+        header: state.header,
+        line,
+    }
+}
+
+/// A state that cannot be is refused by row 1.
+fn taken(parts: &Parts) -> State {
+    let numbers = [parts.total, parts.begins, parts.number, parts.records, parts.cells];
+    let fits = parts.head <= HEADER_ROOM && parts.held < HELD;
+    let possible = fits && numbers.iter().all(|&number| number <= MOST);
+    let refusal = Refusal {
+        number: if possible { parts.reason } else { 1 },
+        record: parts.record,
+        place: parts.place,
+        want: parts.want,
+    };
+    State {
+        size: parts.size,
+        total: parts.total,
+        place: parts.begins,
+        line: parts.line[..parts.held.min(HELD)].to_vec(),
+        complete: parts.number,
+        head: parts.head,
+        header: parts.header,
+        entry: entry_of(parts.has_entry, parts.entry),
+        data_records: parts.records,
+        cells: parts.cells,
+        refusal: (refusal.number != 0).then_some(refusal),
+    }
+}
+
+#[no_mangle]
+pub unsafe extern "C" fn srec_begin(
+    base: u32,
+    memory: *const u8,
+    memory_len: usize,
+    marks: *mut u8,
+    marks_len: usize,
+) -> Parts {
+    let mut memory = lent(memory, memory_len).to_vec();
+    given(&parts::begin(base, &mut memory, lent_mut(marks, marks_len)))
+}
+
+#[no_mangle]
+pub unsafe extern "C" fn srec_feed(
+    state: Parts,
+    part: *const u8,
+    part_len: usize,
+    base: u32,
+    memory: *mut u8,
+    memory_len: usize,
+    marks: *mut u8,
+    marks_len: usize,
+) -> Parts {
+    let (memory, marks) = (lent_mut(memory, memory_len), lent_mut(marks, marks_len));
+    let part = lent(part, part_len);
+    given(&parts::feed(taken(&state), part, base, memory, marks))
+}
+
+#[no_mangle]
+pub unsafe extern "C" fn srec_end(
+    state: Parts,
+    base: u32,
+    memory: *mut u8,
+    memory_len: usize,
+    marks: *mut u8,
+    marks_len: usize,
+) -> Loaded {
+    let (memory, marks) = (lent_mut(memory, memory_len), lent_mut(marks, marks_len));
+    let (answer, _) = parts::end(taken(&state), base, memory, marks);
+    loaded(&answer)
 }

@@ -2,6 +2,7 @@
 //! reading, with all that they leave; and what must hold of them whatever that says.
 
 pub mod images;
+pub mod parts;
 pub mod sheets;
 pub mod texts;
 pub mod writes;

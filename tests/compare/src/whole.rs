@@ -44,6 +44,32 @@ pub struct Origin {
     pub byte: u32,
 }
 
+/// The most characters of a record that a load in parts holds.
+pub const HELD: usize = 516;
+
+/// The state of a load in parts.
+#[repr(C)]
+#[derive(Clone, Copy, Debug)]
+pub struct Parts {
+    pub reason: u32,
+    pub want: u8,
+    pub ended: u8,
+    pub has_entry: u32,
+    pub entry: u32,
+    pub record: usize,
+    pub place: usize,
+    pub size: usize,
+    pub total: usize,
+    pub begins: usize,
+    pub number: usize,
+    pub records: usize,
+    pub cells: usize,
+    pub head: usize,
+    pub held: usize,
+    pub header: [u8; HEADER_ROOM],
+    pub line: [u8; HELD],
+}
+
 /// The second reading's answers as C has them.
 impl From<&reading::Loaded> for Loaded {
     fn from(loaded: &reading::Loaded) -> Loaded {
@@ -273,6 +299,43 @@ extern "C" {
     ) -> Loaded;
 
     fn srec_span_sheet(text: In, text_len: usize, sheet: In, sheet_len: usize) -> Span;
+
+    fn srec_begin(base: u32, memory: In, memory_len: usize, marks: Out, marks_len: usize) -> Parts;
+
+    fn srec_feed(
+        parts: Parts,
+        part: In,
+        part_len: usize,
+        base: u32,
+        memory: Out,
+        memory_len: usize,
+        marks: Out,
+        marks_len: usize,
+    ) -> Parts;
+
+    fn srec_end(
+        parts: Parts,
+        base: u32,
+        memory: Out,
+        memory_len: usize,
+        marks: Out,
+        marks_len: usize,
+    ) -> Loaded;
+}
+
+/// A buffer of length 0 may have any pointer: it is NULL here.
+fn at(bytes: &[u8]) -> In {
+    match bytes {
+        [] => std::ptr::null(),
+        _ => bytes.as_ptr(),
+    }
+}
+
+fn at_mut(bytes: &mut [u8]) -> Out {
+    match bytes {
+        [] => std::ptr::null_mut(),
+        _ => bytes.as_mut_ptr(),
+    }
 }
 
 pub fn load(format: u32, text: &[u8], base: u32, memory: &mut [u8], marks: &mut [u8]) -> Loaded {
@@ -281,12 +344,12 @@ pub fn load(format: u32, text: &[u8], base: u32, memory: &mut [u8], marks: &mut 
     unsafe {
         srec_load_as(
             format,
-            text.as_ptr(),
+            at(text),
             text.len(),
             base,
-            memory.as_mut_ptr(),
+            at_mut(memory),
             memory.len(),
-            marks.as_mut_ptr(),
+            at_mut(marks),
             marks.len(),
         )
     }
@@ -308,15 +371,15 @@ pub fn write(format: u32, source: Source, out: &mut [u8]) -> Written {
         srec_write_as(
             format,
             source.base,
-            source.memory.as_ptr(),
+            at(source.memory),
             source.memory.len(),
-            source.marks.as_ptr(),
+            at(source.marks),
             source.marks.len(),
-            source.header.as_ptr(),
+            at(source.header),
             source.header.len(),
             source.entry.0,
             source.entry.1,
-            out.as_mut_ptr(),
+            at_mut(out),
             out.len(),
         )
     }
@@ -328,11 +391,11 @@ pub fn room(format: u32, source: Source) -> Written {
         srec_room(
             format,
             source.base,
-            source.memory.as_ptr(),
+            at(source.memory),
             source.memory.len(),
-            source.marks.as_ptr(),
+            at(source.marks),
             source.marks.len(),
-            source.header.as_ptr(),
+            at(source.header),
             source.header.len(),
             source.entry.0,
             source.entry.1,
@@ -342,12 +405,12 @@ pub fn room(format: u32, source: Source) -> Written {
 
 pub fn span(format: u32, text: &[u8]) -> Span {
     // SAFETY: as above.
-    unsafe { srec_span(format, text.as_ptr(), text.len()) }
+    unsafe { srec_span(format, at(text), text.len()) }
 }
 
 pub fn origin(format: u32, text: &[u8], address: u32) -> Origin {
     // SAFETY: as above.
-    unsafe { srec_where(format, text.as_ptr(), text.len(), address) }
+    unsafe { srec_where(format, at(text), text.len(), address) }
 }
 
 pub fn merge(
@@ -361,19 +424,19 @@ pub fn merge(
     unsafe {
         srec_merge(
             base,
-            memory.as_mut_ptr(),
+            at_mut(memory),
             memory.len(),
-            marks.as_mut_ptr(),
+            at_mut(marks),
             marks.len(),
-            header.as_ptr(),
+            at(header),
             header.len(),
             entry.0,
             entry.1,
-            patch.memory.as_ptr(),
+            at(patch.memory),
             patch.memory.len(),
-            patch.marks.as_ptr(),
+            at(patch.marks),
             patch.marks.len(),
-            patch_header.as_ptr(),
+            at(patch_header),
             patch_header.len(),
             patch_entry.0,
             patch_entry.1,
@@ -391,25 +454,25 @@ pub fn deal(chips: usize, base: u32, whole: Image, lent: [Lent; CHIPS]) -> Loade
         srec_deal(
             chips,
             base,
-            whole.memory.as_ptr(),
+            at(whole.memory),
             whole.memory.len(),
-            whole.marks.as_ptr(),
+            at(whole.marks),
             whole.marks.len(),
-            m0.as_mut_ptr(),
+            at_mut(m0),
             m0.len(),
-            k0.as_mut_ptr(),
+            at_mut(k0),
             k0.len(),
-            m1.as_mut_ptr(),
+            at_mut(m1),
             m1.len(),
-            k1.as_mut_ptr(),
+            at_mut(k1),
             k1.len(),
-            m2.as_mut_ptr(),
+            at_mut(m2),
             m2.len(),
-            k2.as_mut_ptr(),
+            at_mut(k2),
             k2.len(),
-            m3.as_mut_ptr(),
+            at_mut(m3),
             m3.len(),
-            k3.as_mut_ptr(),
+            at_mut(k3),
             k3.len(),
         )
     }
@@ -422,25 +485,25 @@ pub fn collect(chips: usize, base: u32, (memory, marks): Lent, sending: [Image; 
         srec_collect(
             chips,
             base,
-            memory.as_mut_ptr(),
+            at_mut(memory),
             memory.len(),
-            marks.as_mut_ptr(),
+            at_mut(marks),
             marks.len(),
-            a.memory.as_ptr(),
+            at(a.memory),
             a.memory.len(),
-            a.marks.as_ptr(),
+            at(a.marks),
             a.marks.len(),
-            b.memory.as_ptr(),
+            at(b.memory),
             b.memory.len(),
-            b.marks.as_ptr(),
+            at(b.marks),
             b.marks.len(),
-            c.memory.as_ptr(),
+            at(c.memory),
             c.memory.len(),
-            c.marks.as_ptr(),
+            at(c.marks),
             c.marks.len(),
-            d.memory.as_ptr(),
+            at(d.memory),
             d.memory.len(),
-            d.marks.as_ptr(),
+            at(d.marks),
             d.marks.len(),
         )
     }
@@ -450,12 +513,12 @@ pub fn load_behind(text: &[u8], base: u32, memory: &mut [u8], marks: &mut [u8]) 
     // SAFETY: as above.
     unsafe {
         srec_load_behind(
-            text.as_ptr(),
+            at(text),
             text.len(),
             base,
-            memory.as_mut_ptr(),
+            at_mut(memory),
             memory.len(),
-            marks.as_mut_ptr(),
+            at_mut(marks),
             marks.len(),
         )
     }
@@ -471,14 +534,14 @@ pub fn load_sheet(
     // SAFETY: as above.
     unsafe {
         srec_load_sheet(
-            text.as_ptr(),
+            at(text),
             text.len(),
-            sheet.as_ptr(),
+            at(sheet),
             sheet.len(),
             base,
-            memory.as_mut_ptr(),
+            at_mut(memory),
             memory.len(),
-            marks.as_mut_ptr(),
+            at_mut(marks),
             marks.len(),
         )
     }
@@ -486,5 +549,40 @@ pub fn load_sheet(
 
 pub fn span_sheet(text: &[u8], sheet: &[u8]) -> Span {
     // SAFETY: as above.
-    unsafe { srec_span_sheet(text.as_ptr(), text.len(), sheet.as_ptr(), sheet.len()) }
+    unsafe { srec_span_sheet(at(text), text.len(), at(sheet), sheet.len()) }
+}
+
+pub fn begin(base: u32, memory: &[u8], marks: &mut [u8]) -> Parts {
+    // SAFETY: as above.
+    unsafe { srec_begin(base, at(memory), memory.len(), at_mut(marks), marks.len()) }
+}
+
+pub fn feed(parts: Parts, part: &[u8], base: u32, memory: &mut [u8], marks: &mut [u8]) -> Parts {
+    // SAFETY: as above; a state may hold anything.
+    unsafe {
+        srec_feed(
+            parts,
+            at(part),
+            part.len(),
+            base,
+            at_mut(memory),
+            memory.len(),
+            at_mut(marks),
+            marks.len(),
+        )
+    }
+}
+
+pub fn end(parts: Parts, base: u32, memory: &mut [u8], marks: &mut [u8]) -> Loaded {
+    // SAFETY: as above.
+    unsafe {
+        srec_end(
+            parts,
+            base,
+            at_mut(memory),
+            memory.len(),
+            at_mut(marks),
+            marks.len(),
+        )
+    }
 }

@@ -1,6 +1,6 @@
 //! Runs every check of the functions that give whole answers, and prints what came up.
 
-use compare::face::{images, sheets, texts, writes, Face, FACES};
+use compare::face::{images, parts, sheets, texts, writes, Face, FACES};
 use compare::settings::Settings;
 use std::process::ExitCode;
 use std::thread;
@@ -9,17 +9,21 @@ type Outcome = Result<String, String>;
 type Check = fn(&Settings) -> Outcome;
 type CheckOfFormat = fn(&Face, &Settings) -> Outcome;
 
-const CHECKS: [(&str, Check); 4] = [
+const CHECKS: [(&str, Check); 6] = [
     ("merges", images::merges),
     ("deals and collects", images::boards),
     ("symbol blocks and sheets, small", sheets::small),
     ("symbol blocks and sheets, full size", sheets::full),
+    ("parts", parts::drawn),
+    ("parts, any states", parts::hostile),
 ];
 
 /// These are run for each format.
-const CHECKS_OF_A_FORMAT: [(&str, CheckOfFormat); 2] = [
+const CHECKS_OF_A_FORMAT: [(&str, CheckOfFormat); 4] = [
     ("loads, spans and origins", texts::drawn),
+    ("large loads and spans", texts::large),
     ("writes and rooms", writes::drawn),
+    ("large writes and rooms", writes::large),
 ];
 
 fn main() -> ExitCode {

@@ -19,23 +19,23 @@ const KEPT: usize = LONGEST + 1;
 #[derive(Clone, Debug, PartialEq, Eq)]
 pub struct State {
     /// The length of the memory at the beginning.
-    size: usize,
+    pub(crate) size: usize,
     /// How many characters arrived.
-    total: usize,
+    pub(crate) total: usize,
     /// How many of them stand before the record at hand.
-    place: usize,
+    pub(crate) place: usize,
     /// The record at hand, as far as it is kept.
-    line: Vec<u8>,
+    pub(crate) line: Vec<u8>,
     /// How many records were read, each of them at its line end.
-    complete: usize,
-    head: usize,
-    header: [u8; HEADER_ROOM],
-    entry: Option<u32>,
-    data_records: usize,
+    pub(crate) complete: usize,
+    pub(crate) head: usize,
+    pub(crate) header: [u8; HEADER_ROOM],
+    pub(crate) entry: Option<u32>,
+    pub(crate) data_records: usize,
     /// The data bytes of all data records.
-    cells: usize,
+    pub(crate) cells: usize,
     /// The first refusal, which stays.
-    refusal: Option<Refusal>,
+    pub(crate) refusal: Option<Refusal>,
 }
 
 /// The numbers of a state that a caller could change.

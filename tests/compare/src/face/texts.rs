@@ -109,6 +109,11 @@ fn case(face: &Face, kind: Kind, seed: u64, index: u64) -> LoadCase {
 pub fn drawn(face: &Face, settings: &Settings) -> Result<String, String> {
     let mut counts = Counts::of(face);
     let mut cases = 0;
+    for (number, case) in (face.format.numbered)(settings.seed) {
+        compare(face, &case, settings.seed, &mut counts)
+            .map_err(|error| format!("{number} lines: {error}"))?;
+        cases += 1;
+    }
     for (kind, percent) in KINDS {
         for index in 0..settings.share(percent) {
             let case = case(face, kind, settings.seed, index);
@@ -120,6 +125,27 @@ pub fn drawn(face: &Face, settings: &Settings) -> Result<String, String> {
         }
     }
     Ok(format!("{cases} texts; {}", counts.told()?))
+}
+
+/// About as many lines as can be counted, and more. The first and the last cell are
+/// asked for alone.
+pub fn large(face: &Face, settings: &Settings) -> Result<String, String> {
+    let mut rows = Tally::of(face.format.large_load_numbers.iter().copied());
+    for (index, case) in (face.format.large_loads)(settings.seed).iter().enumerate() {
+        let random = &mut Random::new(settings.seed, index as u64);
+        let number = face.number(random);
+        let in_case = |error| format!("index {index}: {error}");
+        let load = compare_load(face, case, random).map_err(in_case)?;
+        rows.add(load.answer.reason);
+        let span = whole::span(number, &case.text);
+        same("span", span, (face.span)(&case.text).into()).map_err(in_case)?;
+        for address in [span.lowest as u32, span.highest as u32] {
+            let found = whole::origin(number, &case.text, address);
+            let wanted = (face.origin)(&case.text, address).into();
+            same("where", found, wanted).map_err(in_case)?;
+        }
+    }
+    rows.told("rows")
 }
 
 /// A load, with all that it left.

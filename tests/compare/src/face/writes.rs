@@ -49,6 +49,18 @@ pub fn drawn(face: &Face, settings: &Settings) -> Result<String, String> {
     Ok(format!("{cases} cases; {}", told.join("; ")))
 }
 
+/// About as many lines as can be counted, and more.
+pub fn large(face: &Face, settings: &Settings) -> Result<String, String> {
+    let mut rows = Tally::of(face.format.large_write_numbers.iter().copied());
+    for (index, case) in (face.format.large_writes)(settings.seed).iter().enumerate() {
+        let random = &mut Random::new(settings.seed, index as u64);
+        let (written, _) =
+            compare(face, case, random).map_err(|error| format!("index {index}: {error}"))?;
+        rows.add(written.reason);
+    }
+    rows.told("rows")
+}
+
 /// Both answers, and the output; and what must hold of the two.
 fn compare(
     face: &Face,
