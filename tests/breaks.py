@@ -6,23 +6,23 @@
 An edit of kind 'library' breaks a library: tests/second under the face of include/srec.h (breaks/library/face.rs and
 whole.rs), so no archive and no prover is needed. tests/compare must notice, or tests/c where that does not. An edit of kind
 'answers' breaks tests/second itself in what the row alone does not show; tests/compare must notice that by way of the program
-vectors, which `rt check vectors` builds (and `make` the archive that tests/compare links). An edit of kind 'parts' breaks it in
-loads in parts, and tests/compare must notice that by way of the program calls. An edit of kind 'overlay' breaks it in patches
-over a base image; tests/compare must notice that by way of the program patches, and so must the oracle's own tests, and its
-test of the cases of crates/patches. An edit of kind 'packed' breaks it in packed marks; tests/compare must notice that by way
-of one of the three programs, and so must the oracle's own tests, and its tests of the cases of one of the three. An edit of
-kind 'errors' breaks it in how it takes single errors; there it stands in for the program vectors, and tests/compare must
-notice. An edit of kind 'chips' breaks it in images over chips; tests/compare must notice that by way of the program deals,
-and so must the oracle's own tests, and its test of the cases of crates/deals. An edit of kind 'symbols' breaks it in symbol
-blocks, address expressions and patch sheets; tests/compare must notice that by way of the program symbolic, and so must the
-oracle's own tests, and its test of the cases of crates/symbolic. An edit of kind 'face' breaks it in spans, origins and rooms;
-tests/compare must notice that by way of the archive, and so must the oracle's own tests. An edit of kind 'calls' breaks the crates themselves; the
-program calls is compiled with it, without a proof, and the cases of crates/calls must notice. An edit of kind 'patches' does
-so with the program patches; the cases of crates/patches must notice, and so must the first cases that tests/compare draws, by
-the oracle's answers: `rt try` leaves no program that tests/compare itself could run. An edit names a file and replaces text
-that stands there exactly once, or several such texts in turn. With no edit nothing may be noticed. SREC_LIB_DIR, VECTORS,
-CALLS, PATCHES, DEALS and SYMBOLIC name another folder of the archive and other programs. One line an edit; the last line is
-'N passed, M failed'."""
+vectors, which `rt check vectors` builds (and `make` the archive that tests/compare links). An edit of kind 'parts' breaks it
+in loads in parts, and tests/compare must notice that by way of the program calls. An edit of kind 'overlay' breaks it in
+patches over a base image; tests/compare must notice that by way of the program patches, and so must the oracle's own tests,
+and its test of the cases of crates/patches. An edit of kind 'packed' breaks it in packed marks; tests/compare must notice
+that by way of one of the three programs, and so must the oracle's own tests, and its tests of the cases of one of the three.
+An edit of kind 'errors' breaks it in how it takes single errors; there it stands in for the program vectors, and
+tests/compare must notice. An edit of kind 'chips' breaks it in images over chips; tests/compare must notice that by way of
+the program deals, and so must the oracle's own tests, and its test of the cases of crates/deals. An edit of kind 'symbols'
+breaks it in symbol blocks, address expressions and patch sheets; tests/compare must notice that by way of the program
+symbolic, and so must the oracle's own tests, and its test of the cases of crates/symbolic. An edit of kind 'face' breaks it
+in spans, origins and rooms; tests/compare must notice that by way of the archive, and so must the oracle's own tests. An edit
+of kind 'calls' breaks the crates themselves; the program calls is compiled with it, without a proof, and the cases of
+crates/calls must notice. An edit of kind 'patches' does so with the program patches; the cases of crates/patches must notice,
+and so must the first cases that tests/compare draws, by the oracle's answers: `rt try` leaves no program that tests/compare
+itself could run. An edit names a file and replaces text that stands there exactly once, or several such texts in turn. With
+no edit nothing may be noticed. SREC_LIB_DIR, VECTORS, CALLS, PATCHES, DEALS and SYMBOLIC name another folder of the archive
+and other programs. One line an edit; the last line is 'N passed, M failed'."""
 
 import functools
 import json
