@@ -1,6 +1,6 @@
 -- Every format that can be chosen is lawful; what its functions answer, by the choice.
 use mathlib.Core.Path.{_≡_, ap, _∙_, sym}
-use Prim.Native.Nat.{ℕ, suc, _-_, _%_, _≤_}
+use Prim.Native.Nat.{ℕ, suc, _-_, _%_, _^_, _≤_}
 use native.Mathlib.Omega.{arith}
 use mathlib.Core.Bool.{Bool}
 use lib.Dec.{eqb}
@@ -25,6 +25,11 @@ limitsOf (Tape edition) = tapeLimits
 pub lawfulOf : (c : Choice) → Lawful (formatOf c) (limitsOf c)
 lawfulOf Records = recordsLawful
 lawfulOf (Tape edition) = tapesLawful edition
+
+-- no address is above 2^32
+pub top-small : (c : Choice) → limitsOf c .top ≤ 2 ^ 32
+top-small Records = omega arith
+top-small (Tape edition) = omega arith
 
 -- the last test of a character between a tape's lines
 pub pause-last : (c : ℕ) → (c ≡ 13 → ⊥) → (c ≡ 10 → ⊥) → (c ≡ 0 → ⊥) → eqb c xoff ≡ isGap c

@@ -11,9 +11,11 @@ use borrow.Author.Tests.{eqb-true, eqb-false, ltb-true, ltb-false}
 use Rattle.lists.proofs.TestLaws.{by-test}
 use Rattle.window.specs.declared.Refusal.{Refusal}
 use Rattle.window.specs.Images.{Image, blank}
+use Rattle.window.specs.Cells.{Addressed}
 use Rattle.window.specs.Plans.{Plan, refusal, row12, row13, filled, placed}
 use Rattle.window.specs.Plans.Plan.{store, stop, done}
 use Rattle.window.specs.Plans.Outcome.{refused}
+use Rattle.window.proofs.PlanLaws.{stores}
 use Rattle.window.proofs.FillLaws.{filled-none}
 use Rattle.window.proofs.RoomLaws.{length-blank, filled-length, not-row12}
 use Rattle.spans.specs.declared.Span.{Span}
@@ -127,6 +129,13 @@ span-is-exact p =
   where
     nothing : {X : Type 0} → false ≡ true → X
     nothing q = absurd (let z : _≡_ {A = ℕ} 0 1 = cc in omega arith)
+
+-- a cell that the stores of a plan address is one that its records address
+pub addressed-covered : (p : Plan) (A B : ℕ) → Addressed A B (stores p) → Covered A (storesOf p)
+addressed-covered (store n at a ds p) A B (inl h) = inl (omega (arith, h .3), omega (arith, h .1, h .3))
+addressed-covered (store n at a ds p) A B (inr k) = inr (addressed-covered p A B k)
+addressed-covered (stop f) A B k = k
+addressed-covered (done s) A B k = k
 
 -- ---- row 12
 

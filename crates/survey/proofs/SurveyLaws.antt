@@ -1,6 +1,6 @@
 -- The survey's walk: one law for each answer and each way round its loop.
 use mathlib.Core.Path.{_≡_, refl, sym, ap, _∙_, subst}
-use Prim.Native.Nat.{ℕ, suc, _^_, _≤_}
+use Prim.Native.Nat.{ℕ, suc}
 use native.Mathlib.Omega.{arith}
 use mathlib.Core.List.{List, [], _∷_}
 use lib.Dec.{eqb}
@@ -14,16 +14,13 @@ use Rattle.text.specs.Scan.{State as ScanState, ended}
 use Rattle.text.specs.Steps.{stateWith}
 use Rattle.text.specs.Formats.{Format, plan}
 use Rattle.text.proofs.FindLaws.{part}
-use Rattle.formats.specs.declared.Format.{Format as Choice}
-use Rattle.formats.specs.declared.Format.the-variants.{Records, Tape}
-use Rattle.formats.proofs.ChoiceLaws.{limitsOf}
+use Rattle.text.proofs.LeftLaws.{Left, left-start, PutOn}
 use Rattle.spans.specs.declared.Span.{Span}
 use Rattle.spans.specs.declared.Origin.{Origin}
 use Rattle.spans.specs.Spans.{Store, storesOf, noSpan, widened, spanWith, nowhere, covers, originAmong, orElse}
 use Rattle.spans.proofs.OriginLaws.{origin-more}
 use Rattle.data_byte.specs.Places.{bytesIn}
 use Rattle.survey.specs.Surveys.{surveyOf, storeOf, surveyWith}
-use Rattle.survey.proofs.LeftLaws.{Left, left-start, PutOn}
 
 -- an origin without a number is none
 abbrev Settled : Origin → Type 0
@@ -89,8 +86,3 @@ going-put {F} {text} {A} {s} {o} {n} {m} {at} {from} {to} {a} {count} {top} g x 
           ∙ ap (λ (y : Origin). record { span = spanWith s (r ∷ storesOf t); origin = y }) (origin-more A o r k (storesOf t)));
       settled = subst Settled (sym origin-is) (origin-settled A o r k (g .settled));
     }
-
--- no format has addresses above 2^32
-pub top-small : (c : Choice) → limitsOf c .top ≤ 2 ^ 32
-top-small Records = omega arith
-top-small (Tape edition) = omega arith

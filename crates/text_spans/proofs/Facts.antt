@@ -1,6 +1,6 @@
 -- The statements of specs/Facts.antt hold.
 use mathlib.Core.Path.{_≡_, refl, sym, ap, _∙_, subst}
-use Prim.Native.Nat.{ℕ, suc, _-_, _^_, _≤_, _<_}
+use Prim.Native.Nat.{ℕ, suc, _-_, _≤_, _<_}
 use native.Mathlib.Omega.{arith}
 use mathlib.Core.List.{List, [], _∷_}
 use mathlib.Core.Logic.{inl, inr}
@@ -20,14 +20,12 @@ use Rattle.text.specs.Load.{load, loadAnswer}
 use Rattle.text.specs.Terms.{textData, CellOf, loaded}
 use Rattle.text.proofs.FormatLaws.{Limits, AllBytes, plan-ok, stores-ok, content}
 use Rattle.text.proofs.LoadLaws.{Behind, load-inv, accepted-is}
-use Rattle.formats.specs.declared.Format.{Format}
-use Rattle.formats.specs.declared.Format.the-variants.{Records, Tape}
 use Rattle.formats.specs.Choices.{formatOf}
-use Rattle.formats.proofs.ChoiceLaws.{limitsOf, lawfulOf}
+use Rattle.formats.proofs.ChoiceLaws.{limitsOf, lawfulOf, top-small}
 use Rattle.spans.specs.declared.Span.{Span}
 use Rattle.spans.specs.Spans.{Store, storesOf, spanOf}
 use Rattle.spans.specs.Facts.{Covers, Covered, Among, Numbered}
-use Rattle.spans.proofs.SpanLaws.{span-is-exact, never-12 as plan-never-12}
+use Rattle.spans.proofs.SpanLaws.{span-is-exact, addressed-covered, never-12 as plan-never-12}
 use Rattle.spans.proofs.OriginLaws.{origin-is-found, row-13-is-named as plan-row-13}
 use Rattle.text_spans.specs.Facts.{asked, Never-12, Just-large-enough, Cells-are-in, Row-13-is-named}
 use Rattle.text_spans.proofs.RowLaws.{plan-free, plan-numbered}
@@ -60,13 +58,6 @@ row-13-is-named format W text e =
     (refused-by W p (omega (arith, e))) e
 
 -- ---- cells and records
-
--- an addressed cell is one that a record addresses
-addressed-covered : (p : Plan) (A B : ℕ) → Addressed A B (stores p) → Covered A (storesOf p)
-addressed-covered (store n at a ds p) A B (inl h) = inl (omega (arith, h .3), omega (arith, h .1, h .3))
-addressed-covered (store n at a ds p) A B (inr k) = inr (addressed-covered p A B k)
-addressed-covered (stop f) A B k = k
-addressed-covered (done s) A B k = k
 
 -- a record addresses its cells with its bytes
 among-addressed : (p : Plan) (A : ℕ) (r : Store) → Among r (storesOf p) → Covers A r → Addressed A (getD (r .bytes) (A - r .addr) 0) (stores p)
@@ -120,11 +111,6 @@ covered-small L (store n at a ds p) h A (inl c) = omega (arith, h .1, c .1)
 covered-small L (store n at a ds p) h A (inr c) = covered-small L p (h .2) A c
 covered-small L (stop f) h A c = absurd c
 covered-small L (done s) h A c = absurd c
-
--- no format has addresses above 2^32
-top-small : (c : Format) → limitsOf c .top ≤ 2 ^ 32
-top-small Records = omega arith
-top-small (Tape edition) = omega arith
 
 -- a window from the lowest to the highest address is allowed, and has the span in it
 pub just-large-enough : Just-large-enough

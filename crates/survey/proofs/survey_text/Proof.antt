@@ -9,13 +9,13 @@ use Rattle.text.specs.Scan.{Step}
 use Rattle.text.specs.Formats.{Format}
 use Rattle.text.proofs.FindLaws.{Next}
 use Rattle.text.proofs.FormatLaws.{Lawful}
+use Rattle.text.proofs.LeftLaws.{left-none, left-refused, left-ended, left-pass, left-put}
 use Rattle.text.proofs.StepLaws.{Counting, stepAt, none-taken, line-taken}
 use Rattle.formats.specs.Choices.{formatOf}
-use Rattle.formats.proofs.ChoiceLaws.{limitsOf, lawfulOf}
+use Rattle.formats.proofs.ChoiceLaws.{limitsOf, lawfulOf, top-small}
 use Rattle.steps.proofs.ChosenLaws.{countingOf}
 use Rattle.data_byte.specs.Places.{bytesIn}
-use Rattle.survey.proofs.LeftLaws.{left-none, left-refused, left-ended, left-pass, left-put}
-use Rattle.survey.proofs.SurveyLaws.{Going, going-start, going-end, going-ended, Surveying, going-put, top-small}
+use Rattle.survey.proofs.SurveyLaws.{Going, going-start, going-end, going-ended, Surveying, going-put}
 use borrow.Author.Needs.{needs}
 use Rattle.survey.proofs.survey_text.Statement.{statement}
 use Rattle.survey.proofs.survey_text.Tie as tie
@@ -81,7 +81,7 @@ returns-2 c =
     let j = c .before .before in
     let x = line-at (j .before) in
     let g = own j .loop .inv in
-    going-end g (left-refused (lawful (own j)) (counting (own j)) (g .left) (x .0) (x .1) (c .enum-told2 .given .1) .1)
+    going-end g (left-refused (lawful (own j)) (counting (own j)) (g .left) (x .0) (x .1) (c .enum-told2 .given .1))
 
 returns-3 : tie.Need-returns-3 Inv-loop μ-loop
 returns-3 c =

@@ -7,27 +7,28 @@ use mathlib.Core.Logic.{⊎-elim}
 use lib.ListN.{length, drop}
 use Rattle.window.specs.declared.Refusal.{Refusal}
 use Rattle.window.specs.declared.Entry.{Entry}
-use Rattle.window.specs.Plans.{refusal, Plan}
+use Rattle.window.specs.Plans.{refusalWith, refusal, Plan}
 use Rattle.window.specs.Plans.Plan.{store, stop}
 use Rattle.text.specs.declared.Found.the-variants.{Nothing}
 use Rattle.text.specs.declared.State.{State}
 use Rattle.text.specs.declared.Step.{Step}
 use Rattle.text.specs.declared.Step.the-variants.{Refuse, Pass, Put, Finish}
 use Rattle.text.specs.Lines.{lines}
 use Rattle.text.specs.Finds.{found}
-use Rattle.text.specs.Scan.{State as ScanState, Step as ScanStep, more, moreData, ended, located, onward, scan}
+use Rattle.text.specs.Scan.{State as ScanState, Step as ScanStep, more, moreData, onward}
 use Rattle.text.specs.Scan.Step.{refuse, skip, title, put, finish}
 use Rattle.text.specs.Steps.{stateWith, asStep}
 use Rattle.text.specs.Formats.{Format, plan}
 use Rattle.text.proofs.FindLaws.{part, Next, next-none, next-long}
 use Rattle.text.proofs.FormatLaws.{Limits, Lawful, StepOk, said as carried}
 use Rattle.text.proofs.StepLaws.{Counting, Says, step-says}
+use Rattle.text.proofs.TurnLaws.{planFrom, endFrom, turned}
 
 -- the walk has come to `at` with these numbers, which are small, since each line and each data byte takes a character
 pub record Left {C : Type 0} (F : Format) (text : List ℕ) (whole : C) (f : Plan → C) (n : State) (at : ℕ) : Type 0 where
   pub header : List ℕ
   pub inside : at ≤ length text
-  pub rest : f (scan (F .step) (length text) (stateWith header n) (lines (F .gap) at (drop at text))) ≡ whole
+  pub rest : f (planFrom F text at (stateWith header n)) ≡ whole
   pub few : (n .number ≤ at) × (n .records ≤ at) × (n .cells ≤ at)
 
 -- before the first line
@@ -43,6 +44,8 @@ pub record PutOn {C : Type 0} (F : Format) (top : ℕ) (text : List ℕ) (whole 
   pub count-is : count ≡ length ds
   pub number-is : m .number ≡ suc (n .number)
   pub small : a + length ds ≤ top
+  pub rest : Plan
+  pub stored : f (store (suc (n .number)) from a ds rest) ≡ whole
   pub goes-on : (f′ : Plan → C) → ((p : Plan) → f′ p ≡ f (store (suc (n .number)) from a ds p)) → Left F text whole f′ m to
 
 module _ {C : Type 0} {F : Format} {L : Limits} (laws : Lawful F L) (k : Counting F) {text : List ℕ} {whole : C} {f : Plan → C} {n : State} {at : ℕ}
@@ -60,17 +63,9 @@ module _ {C : Type 0} {F : Format} {L : Limits} (laws : Lawful F L) (k : Countin
     abbrev chars : List ℕ
     chars = part text from to
 
-    -- what is left behind this line, from a state on
-    abbrev go : ScanState → Plan
-    go u = scan (F .step) (length text) u (lines (F .gap) to (drop to text))
-
-    -- what is left behind this line where it ends the text
-    abbrev last : Entry → Plan
-    last e = ended s e (lines (F .gap) to (drop to text))
-
     -- what the step of this line leads to
-    turn : (y : ScanStep) → F .step s chars ≡ y → f (onward s from go last y) ≡ whole
-    turn y e = ap (λ (z : ScanStep). f (onward s from go last z)) (sym e) ∙ rw (x .is) at (g .rest)
+    turn : (y : ScanStep) → F .step s chars ≡ y → f (onward s from (planFrom F text to) (endFrom F text to s) y) ≡ whole
+    turn y e = turned f F text s at from to x y e ∙ g .rest
 
     module _ {step : Step} (q : step ≡ asStep from (stateWith [] n) (F .step (stateWith [] n) chars)) where
       -- what the answer says of the step that the definitions take
@@ -78,23 +73,33 @@ module _ {C : Type 0} {F : Format} {L : Limits} (laws : Lawful F L) (k : Countin
       said e = subst (λ (z : Step). Says from s z (F .step s chars)) e (step-says F k from (g .header) n chars step q)
 
       -- a line that a row refuses
-      pub left-refused : {reason place want : ℕ} → step ≡ Refuse reason place want → (r : Refusal) × (f (stop r) ≡ whole)
+      pub left-refused : {reason place want : ℕ} → step ≡ Refuse reason place want → f (stop (refusalWith reason (suc (n .number)) place want)) ≡ whole
       left-refused {reason} {place} {want} e =
           let y : Says from s (Refuse reason place want) (F .step s chars) = said e in
-          (located (suc (n .number)) from (y .0), turn (refuse (y .0)) (y .1))
+          ap (λ (z : Step). f (stop (refusalOf z))) (y .2) ∙ turn (refuse (y .0)) (y .1)
+        where
+          refusalOf : Step → Refusal
+          refusalOf (Refuse r p w) = refusalWith r (suc (n .number)) p w
+          refusalOf (Pass m) = refusal 0 0 0
+          refusalOf (Put m a c) = refusal 0 0 0
+          refusalOf (Finish m e) = refusal 0 0 0
 
       -- the line that ends the text
-      pub left-ended : {m : State} {entry : Entry} → step ≡ Finish m entry → f (last entry) ≡ whole
+      pub left-ended : {m : State} {entry : Entry} → step ≡ Finish m entry → f (endFrom F text to s entry) ≡ whole
       left-ended {m} {entry} e = turn (finish entry) (said e .0)
 
+      -- the state behind it
+      pub left-last : {m : State} {entry : Entry} → step ≡ Finish m entry → stateWith (g .header) m ≡ more s (g .header)
+      left-last {m} {entry} e = said e .1
+
       -- the walk goes on with the numbers of a state
-      on : {f′ : Plan → C} (u : ScanState) (m : State) → stateWith (u .header) m ≡ u → f′ (go u) ≡ whole
+      on : {f′ : Plan → C} (u : ScanState) (m : State) → stateWith (u .header) m ≡ u → f′ (planFrom F text to u) ≡ whole
           → (u .number ≤ to) × (u .records ≤ to) × (u .cells ≤ to) → Left F text whole f′ m to
       on {f′} u m e r h =
           record {
             header = u .header;
             inside = x .high;
-            rest = subst (λ (y : ScanState). f′ (go y) ≡ whole) (sym e) r;
+            rest = subst (λ (y : ScanState). f′ (planFrom F text to y) ≡ whole) (sym e) r;
             few = (
               omega (arith, h .0, ap (λ (y : ScanState). y .number) e),
               omega (arith, h .1, ap (λ (y : ScanState). y .records) e),
@@ -132,7 +137,9 @@ module _ {C : Type 0} {F : Format} {L : Limits} (laws : Lawful F L) (k : Countin
             count-is = y .2;
             number-is = ap (λ (z : ScanState). z .number) (y .3);
             small = subst (StepOk L s) (y .1) (laws .bounded s chars) .1;
-            goes-on = λ f′ same. on {f′ = f′} u m (y .3) (same (go u) ∙ turn (put a ds) (y .1)) (
+            rest = planFrom F text to u;
+            stored = turn (put a ds) (y .1);
+            goes-on = λ f′ same. on {f′ = f′} u m (y .3) (same (planFrom F text to u) ∙ turn (put a ds) (y .1)) (
               omega (arith, g .few .0, x .low, x .some-chars),
               omega (arith, g .few .1, x .low, x .some-chars),
               omega (arith, g .few .2, fits, next-long (F .gap) x, x .low, x .some-chars),
