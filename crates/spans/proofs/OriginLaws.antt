@@ -2,7 +2,7 @@
 use mathlib.Core.Path.{_≡_, refl, sym, ap, _∙_}
 use Prim.Native.Nat.{ℕ, zero, suc, _+_, _-_, _≤_, _<_}
 use native.Mathlib.Omega.{arith}
-use mathlib.Core.Bool.{true, false}
+use mathlib.Core.Bool.{Bool, true, false}
 use mathlib.Core.List.{List, [], _∷_, _++_}
 use mathlib.Core.Option.{none, some}
 use mathlib.Core.Logic.{_⊎_, inl, inr, ⊎-elim}
@@ -21,7 +21,7 @@ use Rattle.window.proofs.OrderLaws.{rising-cells, in-low}
 use Rattle.window.proofs.FillLaws.{inside, middle, left, right, length-middle, cut, Between, between}
 use Rattle.spans.specs.declared.Origin.{Origin}
 use Rattle.spans.specs.Spans.{Store, storesOf, nowhere, covers, originIn, originAmong, originOf, orElse}
-use Rattle.spans.specs.Facts.{Covers, Covered, Among, Windowless, Numbered, Origin-is-found, Overlap, Row-13-is-named}
+use Rattle.spans.specs.Facts.{Covers, Covered, Among, Windowless, Numbered, Origin-is-found, Origin-is-first, None-otherwise, Overlap, Row-13-is-named}
 
 -- ---- the first record that addresses a cell
 
@@ -47,6 +47,42 @@ found-among (r ∷ rs) A (inr c) =
 
 pub origin-is-found : Origin-is-found
 origin-is-found p A h = found-among (storesOf p) A h
+
+-- a cell that no record addresses has none
+none-among : (rs : List Store) (A : ℕ) → (Covered A rs → ⊥) → originAmong A rs ≡ nowhere
+none-among [] A h = refl
+none-among (r ∷ rs) A h =
+    by-test (covers (r .addr) (length (r .bytes)) A) (λ t. absurd (h (inl (covers-inv A r t)))) (λ t. rw t (none-among rs A (λ c. h (inr c))))
+
+pub none-otherwise : None-otherwise
+none-otherwise p A h = none-among (storesOf p) A h
+
+-- the records of a plan have rising numbers
+above : (p : Plan) (lo : ℕ) → Numbered lo p → (r : Store) → Among r (storesOf p) → lo < r .number
+above (store n at a ds p) lo k r (inl e) = omega (arith, k .0, ap (λ (x : Store). x .number) e)
+above (store n at a ds p) lo k r (inr m) = omega (arith, k .0, above p n (k .1) r m)
+above (stop f) lo k r m = absurd m
+above (done s) lo k r m = absurd m
+
+-- so no record before the origin addresses the cell
+first-from : (p : Plan) (lo A : ℕ) → Numbered lo p → (r : Store) → Among r (storesOf p) → Covers A r → originOf A p .ordinal ≤ r .number
+first-from (store n at a ds p) lo A k r m c =
+    by-test (covers a (length ds) A) (λ t. rw t (low m)) (λ t. rw t (behind t m))
+  where
+    low : Among r (storesOf (store n at a ds p)) → n ≤ r .number
+    low (inl e) = omega (arith, ap (λ (x : Store). x .number) e)
+    low (inr i) = omega (arith, above p n (k .1) r i)
+
+    behind : covers a (length ds) A ≡ false → Among r (storesOf (store n at a ds p)) → originAmong A (storesOf p) .ordinal ≤ r .number
+    behind t (inl e) =
+        absurd (let z : _≡_ {A = Bool} true false
+        = sym (covers-is A r c) ∙ ap (λ (x : Store). covers (x .addr) (length (x .bytes)) A) e ∙ t in let w : _≡_ {A = ℕ} 0 1 = cc in omega arith)
+    behind t (inr i) = first-from p n A (k .1) r i c
+first-from (stop f) lo A k r m c = absurd m
+first-from (done s) lo A k r m c = absurd m
+
+pub origin-is-first : Origin-is-first
+origin-is-first p A k r m c = first-from p 0 A k r m c
 
 -- one record is looked at, then the others
 pub origin-more : (A : ℕ) (o : Origin) (r : Store) → (r .number ≡ 0 → ⊥) → (rs : List Store)

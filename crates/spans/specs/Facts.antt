@@ -11,7 +11,7 @@ use Rattle.window.specs.Plans.{Plan, placed}
 use Rattle.window.specs.Plans.Plan.{store, stop, done}
 use Rattle.window.specs.Plans.Outcome.{refused}
 use Rattle.spans.specs.declared.Span.{Span}
-use Rattle.spans.specs.Spans.{Store, storesOf, noSpan, spanOf, originIn, originOf}
+use Rattle.spans.specs.Spans.{Store, storesOf, noSpan, spanOf, nowhere, originIn, originOf}
 
 -- a record addresses the cell at A
 abbrev pub Covers : ℕ → Store → Type 0
@@ -69,6 +69,14 @@ Numbered n (done s) = Unit {0}
 -- a cell that is addressed has one of the records as its origin
 abbrev pub Origin-is-found : Type 0
 Origin-is-found = (p : Plan) (A : ℕ) → Covered A (storesOf p) → (r : Store) × Among r (storesOf p) × Covers A r × (originOf A p ≡ originIn A r)
+
+-- "the first record": none with a lower number addresses the cell
+abbrev pub Origin-is-first : Type 0
+Origin-is-first = (p : Plan) (A : ℕ) → Numbered 0 p → (r : Store) → Among r (storesOf p) → Covers A r → originOf A p .ordinal ≤ r .number
+
+-- "none otherwise"
+abbrev pub None-otherwise : Type 0
+None-otherwise = (p : Plan) (A : ℕ) → (Covered A (storesOf p) → ⊥) → originOf A p ≡ nowhere
 
 -- record n, at a place, addresses a cell whose origin is an earlier record
 pub record Overlap (p : Plan) (n at : ℕ) : Type 0 where
