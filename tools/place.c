@@ -45,10 +45,18 @@ void show_text(const uint8_t *bytes, size_t length)
     show_part(bytes, length < SHOWN ? length : SHOWN, 0, length > SHOWN);
 }
 
+/* Is a place among the first characters of a line that are shown, or right behind a line of so many? */
+static int is_near(const struct input *input, size_t begin, size_t place)
+{
+    int at_end = place == input->length || ends_line(input->bytes[place]);
+
+    return place - begin < SHOWN || (place - begin == SHOWN && at_end);
+}
+
 void show_spot(const struct input *input, size_t place)
 {
     size_t begin = spot_of(input, place).begin;
-    size_t from = place - begin > SHOWN ? place - SHOWN / 2 : begin;
+    size_t from = is_near(input, begin, place) ? begin : place - SHOWN / 2;
     size_t to = from;
 
     while (to < input->length && !ends_line(input->bytes[to]) && to - from <= SHOWN)
