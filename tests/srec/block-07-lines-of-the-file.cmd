@@ -1,0 +1,1 @@
+check block-sum.s19

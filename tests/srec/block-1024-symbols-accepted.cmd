@@ -1,0 +1,1 @@
+check block-1024.s19

@@ -1,0 +1,1 @@
+check --window 0:100 block.s19

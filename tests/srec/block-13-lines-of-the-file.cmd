@@ -1,0 +1,1 @@
+check block-twice.s19

@@ -1,0 +1,1 @@
+check block-alone.s19

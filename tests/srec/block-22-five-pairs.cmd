@@ -1,0 +1,1 @@
+check block-five-pairs.s19

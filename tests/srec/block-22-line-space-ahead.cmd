@@ -1,0 +1,1 @@
+check block-line-space-ahead.s19

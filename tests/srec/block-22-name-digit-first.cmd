@@ -1,0 +1,1 @@
+check block-name-digit-first.s19

@@ -1,0 +1,1 @@
+check block-name-of-17.s19

@@ -1,0 +1,1 @@
+check block-name-underscore.s19

@@ -1,0 +1,1 @@
+check block-title-missing.s19

@@ -1,0 +1,1 @@
+check block-title-space-behind.s19

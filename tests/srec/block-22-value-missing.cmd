@@ -1,0 +1,1 @@
+check block-value-missing.s19

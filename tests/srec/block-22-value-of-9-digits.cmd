@@ -1,0 +1,1 @@
+check block-value-of-9-digits.s19

@@ -1,0 +1,1 @@
+check block-name-twice.s19

@@ -1,0 +1,1 @@
+check block-too-many.s19

@@ -1,0 +1,1 @@
+canon block.s19

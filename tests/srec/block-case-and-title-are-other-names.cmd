@@ -1,0 +1,1 @@
+check block-case.s19

@@ -1,0 +1,1 @@
+check --from symbols block.s19

@@ -1,0 +1,1 @@
+where block.s19 1f02 100

@@ -1,0 +1,1 @@
+canon wide.s28

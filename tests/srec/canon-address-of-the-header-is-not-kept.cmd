@@ -1,0 +1,1 @@
+canon header-address.s19

@@ -1,0 +1,1 @@
+canon unaligned.s19

@@ -1,0 +1,1 @@
+canon entry.s37

@@ -1,0 +1,1 @@
+canon header-252.s19

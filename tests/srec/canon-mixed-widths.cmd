@@ -1,0 +1,1 @@
+canon widths.s37

@@ -1,0 +1,1 @@
+canon nothing.s19

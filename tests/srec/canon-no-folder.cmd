@@ -1,0 +1,1 @@
+canon -o no/out.s19 one.s19

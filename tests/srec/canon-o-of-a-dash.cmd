@@ -1,0 +1,1 @@
+canon -o - one.s19

@@ -1,0 +1,1 @@
+canon -o examples one.s19

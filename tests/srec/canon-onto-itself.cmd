@@ -1,0 +1,1 @@
+canon -o long-rows.s19 long-rows.s19

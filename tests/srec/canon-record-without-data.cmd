@@ -1,0 +1,1 @@
+canon empty-record.s19

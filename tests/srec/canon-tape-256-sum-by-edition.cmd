@@ -1,0 +1,1 @@
+canon --edition sum apart-sum.ptp

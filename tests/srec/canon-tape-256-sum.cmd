@@ -1,0 +1,1 @@
+canon --from tape-sum apart-sum.ptp

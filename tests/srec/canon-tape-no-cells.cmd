@@ -1,0 +1,1 @@
+canon tape-none.ptp

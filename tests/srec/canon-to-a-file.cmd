@@ -1,0 +1,1 @@
+canon -o out.s19 examples/friday.srec

@@ -1,0 +1,1 @@
+canon top.s37

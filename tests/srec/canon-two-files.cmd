@@ -1,0 +1,1 @@
+canon one.s19 rows.s19

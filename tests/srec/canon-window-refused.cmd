@@ -1,0 +1,1 @@
+canon --window 1:1 one.s19

@@ -1,0 +1,1 @@
+canon --window 0:1 one.s19

@@ -1,0 +1,1 @@
+check after.s19

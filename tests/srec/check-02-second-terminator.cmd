@@ -1,0 +1,1 @@
+check ends.s19

@@ -1,0 +1,1 @@
+check longest.s19

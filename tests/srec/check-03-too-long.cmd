@@ -1,0 +1,1 @@
+check long.s19

@@ -1,0 +1,1 @@
+check short.s19

@@ -1,0 +1,1 @@
+check small-s.s19

@@ -1,0 +1,1 @@
+check order-5-7.s19

@@ -1,0 +1,1 @@
+check digit.s19

@@ -1,0 +1,1 @@
+check far-end.s19

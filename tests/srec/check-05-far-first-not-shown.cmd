@@ -1,0 +1,1 @@
+check far-first-not-shown.s19

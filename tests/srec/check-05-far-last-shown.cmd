@@ -1,0 +1,1 @@
+check far-last-shown.s19

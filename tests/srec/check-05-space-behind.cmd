@@ -1,0 +1,1 @@
+check space.s19

@@ -1,0 +1,1 @@
+check length.s19

@@ -1,0 +1,1 @@
+check s5-long.s19

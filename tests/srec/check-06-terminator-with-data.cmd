@@ -1,0 +1,1 @@
+check s9-data.s19

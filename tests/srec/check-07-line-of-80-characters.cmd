@@ -1,0 +1,1 @@
+check sum-80.s37

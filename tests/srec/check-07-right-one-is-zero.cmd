@@ -1,0 +1,1 @@
+check sum-0.s19

@@ -1,0 +1,1 @@
+check sum-end.s19

@@ -1,0 +1,1 @@
+check headers.s19

@@ -1,0 +1,1 @@
+check order-11-13.s19

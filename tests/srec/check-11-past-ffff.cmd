@@ -1,0 +1,1 @@
+check past.s19

@@ -1,0 +1,1 @@
+check past-24.s28

@@ -1,0 +1,1 @@
+check --window 11:100 rows.s19

@@ -1,0 +1,1 @@
+check --window 10:20 rows.s19

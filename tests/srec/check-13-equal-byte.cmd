@@ -1,0 +1,1 @@
+check equal.s19

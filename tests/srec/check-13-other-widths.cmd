@@ -1,0 +1,1 @@
+check three.s37

@@ -1,0 +1,1 @@
+check line-ends-only.s19

@@ -1,0 +1,1 @@
+check no-end-78.s37

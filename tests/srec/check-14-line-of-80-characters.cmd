@@ -1,0 +1,1 @@
+check no-end-80.s37

@@ -1,0 +1,1 @@
+check no-bytes.s19

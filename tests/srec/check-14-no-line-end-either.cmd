@@ -1,0 +1,1 @@
+check no-end-cut.s19

@@ -1,0 +1,1 @@
+check bom-sum.s19

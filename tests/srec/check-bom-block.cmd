@@ -1,0 +1,1 @@
+check --from symbols bom-block.s19

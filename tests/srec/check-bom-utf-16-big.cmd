@@ -1,0 +1,1 @@
+check bom-16-be.s19

@@ -1,0 +1,1 @@
+check cr-bad.s19

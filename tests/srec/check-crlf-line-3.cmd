@@ -1,0 +1,1 @@
+check crlf-bad.s19

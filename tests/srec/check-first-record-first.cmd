@@ -1,0 +1,1 @@
+check order.s19

@@ -1,0 +1,1 @@
+check --from=srec hello.ptp

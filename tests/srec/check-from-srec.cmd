@@ -1,0 +1,1 @@
+check --from srec one.s19

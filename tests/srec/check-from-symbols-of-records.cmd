@@ -1,0 +1,1 @@
+check --from symbols one.s19

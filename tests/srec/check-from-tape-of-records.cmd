@@ -1,0 +1,1 @@
+check --from tape one.s19

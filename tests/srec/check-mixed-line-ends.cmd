@@ -1,0 +1,1 @@
+check mixed-bad.s19

@@ -1,0 +1,1 @@
+check nothing.s19

@@ -1,0 +1,1 @@
+check rows.s19 --window 0:1

@@ -1,0 +1,1 @@
+check sum-end.s19 missing.s19 equal.s19

@@ -1,0 +1,1 @@
+check --window 0x10:0x20 rows.s19

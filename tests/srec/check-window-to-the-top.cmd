@@ -1,0 +1,1 @@
+check --window FFFFFFFF:1 top.s37

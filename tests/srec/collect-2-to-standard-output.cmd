@@ -1,0 +1,1 @@
+collect -k2 of2 -

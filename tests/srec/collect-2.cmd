@@ -1,0 +1,1 @@
+collect -k 2 of2 out.s19

@@ -1,0 +1,1 @@
+collect -k4 of4 -

@@ -1,0 +1,1 @@
+collect -k 4 of4 out.s19

@@ -1,0 +1,1 @@
+collect -k 4 of2 one.s19

@@ -1,0 +1,1 @@
+collect of2 out

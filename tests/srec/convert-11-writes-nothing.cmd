@@ -1,0 +1,1 @@
+convert --to tape -o one.s19 top.s37

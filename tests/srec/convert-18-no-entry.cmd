@@ -1,0 +1,1 @@
+convert --to srec -o one.s19 hello.ptp

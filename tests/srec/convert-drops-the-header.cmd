@@ -1,0 +1,1 @@
+convert examples/sample.srec --to=tape

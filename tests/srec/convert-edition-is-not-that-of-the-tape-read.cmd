@@ -1,0 +1,1 @@
+convert --to tape --edition sum apart-sum.ptp

@@ -1,0 +1,1 @@
+convert --to srec --edition sum --entry 0 apart-sum.ptp

@@ -1,0 +1,1 @@
+convert --to tape --entry 0 one.s19

@@ -1,0 +1,1 @@
+convert --to srec --entry 1g one.s19

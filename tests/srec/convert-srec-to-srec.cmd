@@ -1,0 +1,1 @@
+convert --to srec examples/friday.srec

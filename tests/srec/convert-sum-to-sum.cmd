@@ -1,0 +1,1 @@
+convert --to tape --from tape-sum --edition sum apart-sum.ptp

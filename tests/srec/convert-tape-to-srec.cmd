@@ -1,0 +1,1 @@
+convert --to srec --entry 200 hello.ptp

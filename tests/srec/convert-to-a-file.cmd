@@ -1,0 +1,1 @@
+convert --to tape -o out.ptp hello.ptp

@@ -1,0 +1,1 @@
+convert --to hex one.s19

@@ -1,0 +1,1 @@
+convert one.s19

@@ -1,0 +1,1 @@
+deal -k 4 deal.s19 chip

@@ -1,0 +1,1 @@
+deal -k 2 top.s37 chip

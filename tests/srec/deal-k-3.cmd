@@ -1,0 +1,1 @@
+deal -k 3 deal.s19 chip

@@ -1,0 +1,1 @@
+deal -k 2 nothing.s19 chip

@@ -1,0 +1,1 @@
+deal -k 4 high.s28 chip

@@ -1,0 +1,1 @@
+deal -k 2 equal.s19 old

@@ -1,0 +1,1 @@
+deal deal.s19 chip

@@ -1,0 +1,1 @@
+diff equal.s19 equal.s19

@@ -1,0 +1,1 @@
+diff sum-end.s19 equal.s19

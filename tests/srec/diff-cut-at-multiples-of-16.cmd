@@ -1,0 +1,1 @@
+diff block16.s19 nothing.s19

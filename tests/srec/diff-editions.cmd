@@ -1,0 +1,1 @@
+diff --edition sum apart-sum.ptp t256-sum.ptp

@@ -1,0 +1,1 @@
+diff tape-none.ptp nothing.s19

@@ -1,0 +1,1 @@
+diff same.s28 examples/friday.srec

@@ -1,0 +1,1 @@
+diff hello.ptp hello.s19

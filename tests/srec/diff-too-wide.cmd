@@ -1,0 +1,1 @@
+diff far.s37 nothing.s19

@@ -1,0 +1,1 @@
+info entry-24.s28

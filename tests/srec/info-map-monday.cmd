@@ -1,0 +1,1 @@
+info --map examples/monday.srec

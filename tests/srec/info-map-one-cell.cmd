@@ -1,0 +1,1 @@
+info --map top.s37

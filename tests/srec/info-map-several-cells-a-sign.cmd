@@ -1,0 +1,1 @@
+info --map map.s28

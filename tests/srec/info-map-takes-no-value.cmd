@@ -1,0 +1,1 @@
+info --map=1 one.s19

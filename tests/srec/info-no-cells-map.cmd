@@ -1,0 +1,1 @@
+info --map nothing.s19

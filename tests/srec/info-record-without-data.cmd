@@ -1,0 +1,1 @@
+info empty-record.s19

@@ -1,0 +1,1 @@
+info equal.s19

@@ -1,0 +1,1 @@
+info --edition sum hello.ptp

@@ -1,0 +1,1 @@
+info runs.ptp

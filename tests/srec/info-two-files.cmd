@@ -1,0 +1,1 @@
+info one.s19 one.s19

@@ -1,0 +1,1 @@
+diff kept/objcopy-plain.s19 kept/srec_cat-header.s19

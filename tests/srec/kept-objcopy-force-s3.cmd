@@ -1,0 +1,1 @@
+canon kept/objcopy-force-s3.s37

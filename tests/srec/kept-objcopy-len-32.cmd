@@ -1,0 +1,1 @@
+canon kept/objcopy-len-32.s19

@@ -1,0 +1,1 @@
+check kept/objcopy-symbols.s19

@@ -1,0 +1,1 @@
+check kept/srec_cat-data-only.s19

@@ -1,0 +1,1 @@
+check kept/srec_cat-no-terminator.s19

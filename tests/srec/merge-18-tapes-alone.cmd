@@ -1,0 +1,1 @@
+merge hello.ptp fix.ptp

@@ -1,0 +1,1 @@
+merge block.s19 fix.s19

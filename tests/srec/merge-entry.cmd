@@ -1,0 +1,1 @@
+merge --entry 1234 base.s19 fix.s19

@@ -1,0 +1,1 @@
+merge --entry 0 hello.ptp fix.ptp

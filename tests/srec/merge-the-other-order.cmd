@@ -1,0 +1,1 @@
+merge base.s19 site.s19 fix.s19

@@ -1,0 +1,1 @@
+merge --window 0:20 base.s19 fix.s19

@@ -1,0 +1,1 @@
+patch --symbols one.s19 --entry 0 fix.sheet

@@ -1,0 +1,1 @@
+patch --symbols block-alone.s19 --entry 0 fix.sheet

@@ -1,0 +1,1 @@
+patch --symbols bom-block.s19 --entry 0 fix.sheet

@@ -1,0 +1,1 @@
+patch --symbols gone missing.sheet

@@ -1,0 +1,1 @@
+patch --symbols block.s19 --over hello.ptp --entry 5 fix.sheet

@@ -1,0 +1,1 @@
+patch --symbols block.s19 --over base.s19 --entry 5 fix.sheet

@@ -1,0 +1,1 @@
+patch --symbols - --over - fix.sheet

@@ -1,0 +1,1 @@
+patch --symbols - --entry 0 fix.sheet

@@ -1,0 +1,1 @@
+patch fix.sheet

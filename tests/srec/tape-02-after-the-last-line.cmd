@@ -1,0 +1,1 @@
+check t2.ptp

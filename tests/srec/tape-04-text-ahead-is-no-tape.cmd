@@ -1,0 +1,1 @@
+check t4-text.ptp

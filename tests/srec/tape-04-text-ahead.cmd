@@ -1,0 +1,1 @@
+check --from tape t4-text.ptp

@@ -1,0 +1,1 @@
+check t5.ptp

@@ -1,0 +1,1 @@
+check t6.ptp

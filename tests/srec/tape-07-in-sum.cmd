@@ -1,0 +1,1 @@
+check --edition=sum t10-or-7.ptp

@@ -1,0 +1,1 @@
+check --edition sum t7-last.ptp

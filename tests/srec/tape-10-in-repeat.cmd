@@ -1,0 +1,1 @@
+check t10-or-7.ptp

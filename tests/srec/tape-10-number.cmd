@@ -1,0 +1,1 @@
+check t10.ptp

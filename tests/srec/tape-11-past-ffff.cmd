@@ -1,0 +1,1 @@
+check t11.ptp

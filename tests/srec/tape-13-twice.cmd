@@ -1,0 +1,1 @@
+check t13.ptp

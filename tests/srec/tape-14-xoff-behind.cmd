@@ -1,0 +1,1 @@
+check t14-xoff.ptp

@@ -1,0 +1,1 @@
+check --from tape kept/srec_cat-tape-256.ptp

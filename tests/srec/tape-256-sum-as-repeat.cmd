@@ -1,0 +1,1 @@
+check t256-sum.ptp

@@ -1,0 +1,1 @@
+check --from tape --edition sum t256-sum.ptp

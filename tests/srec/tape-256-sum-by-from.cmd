@@ -1,0 +1,1 @@
+check --from tape-sum t256-sum.ptp

@@ -1,0 +1,1 @@
+check --edition sum t256-sum.ptp

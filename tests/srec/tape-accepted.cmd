@@ -1,0 +1,1 @@
+check hello.ptp kim.ptp

@@ -1,0 +1,1 @@
+check --from tape-sum --edition repeat t256-sum.ptp

@@ -1,0 +1,1 @@
+canon nul.ptp

@@ -1,0 +1,1 @@
+check --edition other one.s19

@@ -1,0 +1,1 @@
+check --from hex one.s19

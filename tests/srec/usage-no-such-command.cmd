@@ -1,0 +1,1 @@
+chekc one.s19

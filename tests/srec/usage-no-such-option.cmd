@@ -1,0 +1,1 @@
+check --windows 0:1 one.s19

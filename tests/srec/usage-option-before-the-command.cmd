@@ -1,0 +1,1 @@
+--window 0:1 check one.s19

@@ -1,0 +1,1 @@
+check -o out one.s19

@@ -1,0 +1,1 @@
+canon -o a -o b one.s19

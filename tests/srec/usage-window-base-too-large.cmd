@@ -1,0 +1,1 @@
+check --window=100000000:0 one.s19

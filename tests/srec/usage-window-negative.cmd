@@ -1,0 +1,1 @@
+check --window=-1:5 one.s19

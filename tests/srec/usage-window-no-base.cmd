@@ -1,0 +1,1 @@
+check --window=:1 one.s19

@@ -1,0 +1,1 @@
+check --window=100 one.s19

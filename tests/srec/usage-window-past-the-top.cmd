@@ -1,0 +1,1 @@
+check --window FFFFFFFF:2 one.s19

@@ -1,0 +1,1 @@
+check --window=0:1:2 one.s19

@@ -1,0 +1,1 @@
+where examples/lost-bit.srec 0

@@ -1,0 +1,1 @@
+where mixed-bad.s19 1 2

@@ -1,0 +1,1 @@
+where missing 0

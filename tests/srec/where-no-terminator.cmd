@@ -1,0 +1,1 @@
+where no-end.s19 0

@@ -1,0 +1,1 @@
+where --window FFFFFFF0:10 top.s37 FFFFFFFE

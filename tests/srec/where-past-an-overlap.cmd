@@ -1,0 +1,1 @@
+where overlap.s19 0 1 2 3

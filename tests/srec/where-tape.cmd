@@ -1,0 +1,1 @@
+where nul.ptp 4

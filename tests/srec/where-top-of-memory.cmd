@@ -1,0 +1,1 @@
+where top.s37 FFFFFFFF
