@@ -502,6 +502,32 @@ def maps():
             yield f"a map in {columns} columns", printed, plain + row
 
 
+def plain(line):
+    """A line of the manual page without its marks."""
+    for mark in ("\\fB", "\\fI", "\\fR"):
+        line = line.replace(mark, "")
+    return line.replace("\\-", "-")
+
+
+def manual():
+    """The manual page has the program's version and the usage of each command, and groff reads it without a warning."""
+    page = ROOT / "tools" / "srec.1"
+    lines = page.read_text(encoding="utf-8").splitlines()
+    synopsis = lines[lines.index(".SH SYNOPSIS") + 2 :]
+    usages = [plain(line) for line in synopsis[: synopsis.index(".fi")]]
+    with tempfile.TemporaryDirectory() as folder:
+        shown = output_of(run(["--help"], folder)).decode().splitlines()
+        version = output_of(run(["--version"], folder)).decode().strip()
+    expected = [line.strip() for line in shown if line.startswith("  srec ")]
+    yield "the usages of the manual page", "\n".join(usages).encode(), "\n".join(expected).encode()
+    yield "the version of the manual page", str(f'"{version}"' in lines[1]).encode(), b"True"
+    if not shutil.which("groff"):
+        print("skipped: the manual page by groff (it is not installed)")
+        return
+    done = subprocess.run(["groff", "-man", "-Tutf8", "-ww", page], stdout=subprocess.PIPE, stderr=subprocess.PIPE)
+    yield "warnings of groff", done.stderr, b""
+
+
 # ---- beside other programs
 
 
@@ -598,6 +624,7 @@ def cases():
         round_trips,
         many_records,
         maps,
+        manual,
     ):
         yield from group()
     yield from beside("objcopy", by_objcopy)

@@ -1,0 +1,1 @@
+check block-dollars.s19

@@ -1,0 +1,1 @@
+diff block-bad.s19 one.s19

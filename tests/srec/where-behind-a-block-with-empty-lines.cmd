@@ -1,0 +1,1 @@
+where block-late.s19 0

@@ -1,0 +1,1 @@
+where block-bad.s19 0
