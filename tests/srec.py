@@ -59,6 +59,11 @@ def run(words, folder, program=PROGRAM, environment={}, **how):
     return told(done.returncode, done.stdout or b"", done.stderr or b"")
 
 
+def content(path):
+    """What a file has, or a word where there is none."""
+    return Path(path).read_bytes() if Path(path).exists() else b"(no such file)"
+
+
 def files_of(folder):
     """The files below a folder, by their names in it."""
     return {str(path.relative_to(folder)): path.read_bytes() for path in Path(folder).rglob("*") if path.is_file()}
@@ -171,7 +176,7 @@ def standard_files():
         yield "trouble with a closed error", run(["check", "gone"], folder, preexec_fn=closing(2)), told(2)
         for words, out in (["canon", "-o", "new", "one.s19"], "new"), (["deal", "-k", "2", "one.s19", "new"], "new.0"):
             expected = output_of(run(["canon", "one.s19"], folder))
-            printed = run(words, folder, preexec_fn=closing(0, 1, 2)) + (Path(folder) / out).read_bytes()
+            printed = run(words, folder, preexec_fn=closing(0, 1, 2)) + content(Path(folder) / out)
             yield f"a file with all closed: {words}", printed, told(0) + expected
         with open("/dev/full", "wb") as full:
             yield "full standard error", run(["check", "equal.s19"], folder, stderr=full), told(1)
@@ -244,7 +249,7 @@ def permissions():
             yield f"no permission: {words}", attempt(words), told(2, b"", b"srec: " + path + denied) + names
         (folder / "shut").chmod(0o755)
         for path in ("kept.s19", "shut/old.s19"):
-            yield f"{path} is as it was", (folder / path).read_bytes(), b"old"
+            yield f"{path} is as it was", content(folder / path), b"old"
         yield "nothing else was made", b" ".join(map(os.fsencode, os.listdir(folder / "shut"))), b"old.s19"
 
 
@@ -258,7 +263,7 @@ def replacing():
             (folder / "out").write_bytes(b"old" * 1000)
             (folder / "out").chmod(mode)
             printed = run(["canon", "-o", "out", "one.s19"], folder)
-            yield f"a file of mode {mode:o} is replaced", printed + (folder / "out").read_bytes(), told(0) + expected
+            yield f"a file of mode {mode:o} is replaced", printed + content(folder / "out"), told(0) + expected
             yield f"and keeps mode {mode:o}", b"%o" % stat.S_IMODE((folder / "out").stat().st_mode), b"%o" % mode
         for mask in (0o022, 0o077):
             (folder / "new").unlink(missing_ok=True)
@@ -270,7 +275,7 @@ def replacing():
         (folder / "link").symlink_to("deep/real")
         yield "a link", run(["canon", "-o", "link", "one.s19"], folder), told(0)
         yield "stays one", os.fsencode(os.readlink(folder / "link")), b"deep/real"
-        yield "and its file is replaced", (folder / "deep" / "real").read_bytes(), expected
+        yield "and its file is replaced", content(folder / "deep" / "real"), expected
         yield "nothing else is left", b" ".join(sorted(map(os.fsencode, os.listdir(folder / "deep")))), b"real"
         (folder / "nowhere").symlink_to("deep/gone")
         expected_trouble = told(2, b"", b"srec: nowhere: No such file or directory\n")
@@ -359,7 +364,7 @@ def zeros():
         enough = at_most(GIB + GIB // 16)
         yield "1 GiB of zeros", run(["check", "zeros"], folder, preexec_fn=enough), told(1, b"", refused)
         printed = run(["canon", "-o", "one.s19", "zeros"], folder, preexec_fn=enough)
-        yield "its canonical text", printed + (Path(folder) / "one.s19").read_bytes(), told(1, b"", refused) + ONE
+        yield "its canonical text", printed + content(Path(folder) / "one.s19"), told(1, b"", refused) + ONE
         missing = b"zeros: no record gives 00000000\n"
         yield "a cell of it", run(["where", "zeros", "0"], folder, preexec_fn=enough), told(1, b"", missing + refused)
         no_end = long_message(b"zeros", 14, b"there is no terminator, or the tape has no last line", b"?" * 78)
