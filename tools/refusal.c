@@ -71,8 +71,8 @@ static void tell_outside(const struct input *input, const struct window *window,
 {
     struct cells cells = cells_at(input, place);
 
-    fprintf(stderr, "  it has %zu cells from %08" PRIX64 " on, the window %zu from %08" PRIX32 " on\n", cells.count,
-            cells.address, window->length, window->base);
+    fprintf(stderr, "  it has %zu cell%s from %08" PRIX64 " on, the window %zu from %08" PRIX32 " on\n", cells.count,
+            cells.count == 1 ? "" : "s", cells.address, window->length, window->base);
 }
 
 /* Text editors put such marks, and no format here has them. */
