@@ -65,7 +65,7 @@ static int read_all(FILE *file, struct text *text)
 /* The smallest window that holds every cell of the text, so that no data lies outside (row 12). Returns 0, or -1. */
 static int make_window(const struct text *text, struct window *window)
 {
-    struct srec_span span = srec_span(SREC_RECORDS, text->bytes, text->length);
+    struct srec_range span = srec_span(SREC_RECORDS, text->bytes, text->length);
 
     window->base = (uint32_t)span.lowest;
     window->length = span.any ? (size_t)(span.highest - span.lowest + 1) : 0;

@@ -86,7 +86,7 @@ struct srec_written {
 };
 
 /* The addresses that data records address. */
-struct srec_span {
+struct srec_range {
     uint32_t any;     /* 1 if they address a cell, else 0, and then both are 0 */
     uint64_t lowest;  /* the lowest address */
     uint64_t highest; /* the highest; above FFFFFFFF only in a patch sheet, and then no window covers it */
@@ -119,13 +119,12 @@ struct srec_written srec_room(uint32_t format, uint32_t base, const uint8_t *mem
  * 12 and 13 refuses. In a window that covers them row 12 is never given; if there are none, a window of no cells will do.
  * Of a text with a symbol block hand in what stands from srec_behind on.
  *
- *     struct srec_span span = srec_span(SREC_RECORDS, text, length);
+ *     struct srec_range span = srec_span(SREC_RECORDS, text, length);
  *     size_t cells = span.any ? span.highest - span.lowest + 1 : 0;
- *     uint8_t *memory = calloc(cells, 1), *marks = malloc(cells);
+ *     uint8_t *memory = calloc(cells + 1, 1), *marks = malloc(cells + 1);
  *     got = srec_load_as(SREC_RECORDS, text, length, span.lowest, memory, cells, marks, cells);
- *
- * In C++ the struct is written `struct srec_span`, since the function has the same name. */
-struct srec_span srec_span(uint32_t format, const uint8_t *text, size_t text_len);
+ */
+struct srec_range srec_span(uint32_t format, const uint8_t *text, size_t text_len);
 
 /* The first record of a text, up to the first that a row other than 12 and 13 refuses, that addresses the cell at an
  * address. After a refusal 13 at record n one of the cells of that record has an origin before n. */
@@ -179,7 +178,7 @@ size_t srec_behind(const uint8_t *text, size_t text_len);
 
 /* As srec_span, for the pairs of a patch sheet before the first field that one of rows 25 to 27 refuses; no cell, if the
  * block is refused. */
-struct srec_span srec_span_sheet(const uint8_t *text, size_t text_len, const uint8_t *sheet, size_t sheet_len);
+struct srec_range srec_span_sheet(const uint8_t *text, size_t text_len, const uint8_t *sheet, size_t sheet_len);
 
 /* ---- S-records in parts, as they arrive */
 

@@ -127,7 +127,7 @@ enum status run_deal(const struct options *options)
 }
 
 static enum status open_chips(const struct options *options, const struct chips *chips, struct input *inputs,
-                              struct srec_span *span)
+                              struct srec_range *span)
 {
     enum status status = DONE;
 
@@ -159,8 +159,8 @@ static enum status load_each(const struct input *inputs, struct chips *chips)
 /* Reads all chips before the first is loaded, since all have the same window. */
 static enum status load_chips(const struct options *options, struct chips *chips)
 {
-    const struct srec_span none = {0, 0, 0};
-    struct srec_span span = none;
+    const struct srec_range none = {0, 0, 0};
+    struct srec_range span = none;
     struct input inputs[MOST_CHIPS];
     enum status status;
 

@@ -97,7 +97,7 @@ static enum status compare(const struct image *first, const struct image *second
 /* Loads both inputs into windows that hold the cells of either, and compares them. */
 static enum status load_and_compare(const struct input *inputs, const struct options *options)
 {
-    struct srec_span span = both_spans(span_of(&inputs[0]), span_of(&inputs[1]));
+    struct srec_range span = both_spans(span_of(&inputs[0]), span_of(&inputs[1]));
     struct image images[2];
     enum status status = DONE;
 

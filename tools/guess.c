@@ -50,9 +50,9 @@ static struct cells last_cells(const struct input *input)
     return cells;
 }
 
-struct srec_span guess_span(const struct input *input)
+struct srec_range guess_span(const struct input *input)
 {
-    struct srec_span span = {0, 0, 0};
+    struct srec_range span = {0, 0, 0};
     struct cells first;
     struct cells last;
 

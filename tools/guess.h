@@ -7,6 +7,6 @@
 
 /* The cells from the first to the last data record, where both are near the start and the end: right for texts in order
  * of addresses. It may be wrong for any other. */
-struct srec_span guess_span(const struct input *input);
+struct srec_range guess_span(const struct input *input);
 
 #endif

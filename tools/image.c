@@ -12,14 +12,14 @@
  * could else take all memory that there is. */
 #define MOST_CELLS ((uint64_t)1 << 30)
 
-struct srec_span span_of(const struct input *input)
+struct srec_range span_of(const struct input *input)
 {
     struct records records = records_of(input);
 
     return srec_span(records.format, records.text, records.length);
 }
 
-struct srec_span both_spans(struct srec_span one, struct srec_span other)
+struct srec_range both_spans(struct srec_range one, struct srec_range other)
 {
     if (!one.any)
         return other;
@@ -56,7 +56,7 @@ static void tell_too_wide(uint64_t base, uint64_t length, const char *name)
             base, base + length - 1, length, MOST_CELLS, base, length);
 }
 
-enum status open_window(const struct options *options, struct srec_span span, size_t unit, const char *name,
+enum status open_window(const struct options *options, struct srec_range span, size_t unit, const char *name,
                         struct window *window)
 {
     uint64_t base = 0;
@@ -127,7 +127,7 @@ enum status load_image(const struct input *input, struct image *image)
  * the cells that the text seems to have saves the pass over it that finds those it has. */
 static enum status load_alone(const struct input *input, const struct options *options, size_t unit, struct image *image)
 {
-    struct srec_span guess = guess_span(input);
+    struct srec_range guess = guess_span(input);
     enum status status;
 
     /* Well below the limit, so that the guess never reaches it. */

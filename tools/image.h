@@ -26,12 +26,12 @@ struct image {
     struct product spare;      /* room that is no longer needed, for the text that will be written */
 };
 
-struct srec_span span_of(const struct input *input);
-struct srec_span both_spans(struct srec_span one, struct srec_span other);
+struct srec_range span_of(const struct input *input);
+struct srec_range both_spans(struct srec_range one, struct srec_range other);
 
 /* Makes a window: the one that --window gives, else one that holds the span, from a multiple of `unit` to one. The name is
  * for messages, NULL for several files. Its buffers are the caller's to free with close_window, also after trouble. */
-enum status open_window(const struct options *options, struct srec_span span, size_t unit, const char *name,
+enum status open_window(const struct options *options, struct srec_range span, size_t unit, const char *name,
                         struct window *window);
 
 /* Makes a window of a base and a length. */

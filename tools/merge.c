@@ -6,7 +6,7 @@
 #include "image.h"
 #include "overlay.h"
 
-static enum status open_all(const struct options *options, struct input *inputs, struct srec_span *span)
+static enum status open_all(const struct options *options, struct input *inputs, struct srec_range *span)
 {
     enum status status = DONE;
 
@@ -38,7 +38,7 @@ static enum status lay_all(const struct options *options, struct input *inputs, 
 enum status run_merge(const struct options *options)
 {
     struct input *inputs = calloc((size_t)options->operand_count, sizeof *inputs);
-    struct srec_span span = {0, 0, 0};
+    struct srec_range span = {0, 0, 0};
     struct image images[2];
     enum status status;
 

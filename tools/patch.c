@@ -33,7 +33,7 @@ static void close_files(struct files *files)
     close_input(&files->base);
 }
 
-static struct srec_span span_of_sheet(const struct files *files)
+static struct srec_range span_of_sheet(const struct files *files)
 {
     return srec_span_sheet(files->symbols.bytes, files->symbols.length, files->sheet.bytes, files->sheet.length);
 }
@@ -54,7 +54,7 @@ static enum status load_sheet(const struct files *files, struct image *image)
 /* Loads the sheet, and lays it over the base if there is one. The result is in *image. */
 static enum status load_files(const struct options *options, const struct files *files, struct image *image)
 {
-    struct srec_span span = span_of_sheet(files);
+    struct srec_range span = span_of_sheet(files);
     struct image patch;
     enum status status;
 

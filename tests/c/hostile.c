@@ -304,7 +304,7 @@ static uint32_t room(void)
 
 static uint32_t span(void)
 {
-    struct srec_span got = srec_span(told.format, LENT(0));
+    struct srec_range got = srec_span(told.format, LENT(0));
     CHECK(got.any <= 1 && got.lowest <= got.highest && got.highest <= UINT32_MAX && (got.any || got.highest == 0));
     return !got.any;
 }
@@ -326,7 +326,7 @@ static uint32_t behind(void)
 
 static uint32_t span_sheet(void)
 {
-    struct srec_span got = srec_span_sheet(LENT(0), LENT(1));
+    struct srec_range got = srec_span_sheet(LENT(0), LENT(1));
     CHECK(got.any <= 1 && got.lowest <= got.highest && got.lowest <= UINT32_MAX);
     CHECK(got.highest < (uint64_t)UINT32_MAX + 65535 && (got.any || got.highest == 0));
     return !got.any;

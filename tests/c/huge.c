@@ -140,7 +140,7 @@ static void far_places(void)
     LOADED(srec_load_as(SREC_TAPE_SUM, text, length, 0, NULL, 0, NULL, 0), refusal(12, 0, 1, TOP));
     struct srec_origin origin = srec_where(SREC_TAPE_SUM, text, length, 0xFFFF);
     CHECK(origin.record == 1 && origin.place == TOP && origin.byte == 0xA5);
-    struct srec_span span = srec_span(SREC_TAPE_SUM, text, length);
+    struct srec_range span = srec_span(SREC_TAPE_SUM, text, length);
     CHECK(span.any == 1 && span.lowest == 0xFFFF && span.highest == 0xFFFF);
     munmap(text, length);
 }

@@ -27,10 +27,10 @@ static void others(void)
     CHECK(offsetof(struct srec_written, place) == 8);
     CHECK(offsetof(struct srec_written, length) == 16);
     CHECK(sizeof(struct srec_written) == 24);
-    CHECK(offsetof(struct srec_span, any) == 0);
-    CHECK(offsetof(struct srec_span, lowest) == 8);
-    CHECK(offsetof(struct srec_span, highest) == 16);
-    CHECK(sizeof(struct srec_span) == 24);
+    CHECK(offsetof(struct srec_range, any) == 0);
+    CHECK(offsetof(struct srec_range, lowest) == 8);
+    CHECK(offsetof(struct srec_range, highest) == 16);
+    CHECK(sizeof(struct srec_range) == 24);
     CHECK(offsetof(struct srec_origin, record) == 0);
     CHECK(offsetof(struct srec_origin, place) == 8);
     CHECK(offsetof(struct srec_origin, byte) == 16);

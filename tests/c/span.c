@@ -5,7 +5,7 @@
 
 #include "answer.h"
 
-static void check_span(struct srec_span got, uint32_t any, uint64_t lowest, uint64_t highest, int line)
+static void check_span(struct srec_range got, uint32_t any, uint64_t lowest, uint64_t highest, int line)
 {
     check(got.any == any, "any", line);
     check(got.lowest == lowest, "lowest", line);
@@ -19,7 +19,7 @@ static void check_origin(struct srec_origin got, size_t record, size_t place, ui
     check(got.byte == byte, "byte", line);
 }
 
-static struct srec_span span(uint32_t format, const char *text)
+static struct srec_range span(uint32_t format, const char *text)
 {
     return srec_span(format, (const uint8_t *)text, strlen(text));
 }
@@ -141,7 +141,7 @@ static void none_behind_a_refused_record(void)
 
 /* ---- patch sheets ---- */
 
-static struct srec_span span_sheet(const char *text, const char *sheet, size_t length)
+static struct srec_range span_sheet(const char *text, const char *sheet, size_t length)
 {
     return srec_span_sheet((const uint8_t *)text, strlen(text), (const uint8_t *)sheet, length);
 }

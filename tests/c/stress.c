@@ -300,7 +300,7 @@ static void check_answer(const struct format *format, const struct window *windo
 /* The span is that of the marks, or does not fit where row 12 says so; and a drawn cell is where a mark is. */
 static void check_span(const struct format *format, const struct window *window, const struct text *text, uint32_t row)
 {
-    struct srec_span span = srec_span(format->number, text->bytes, text->length);
+    struct srec_range span = srec_span(format->number, text->bytes, text->length);
     size_t first = 0, end = window->length, index = draw(window->length + 1);
     struct srec_origin origin =
         srec_where(format->number, text->bytes, text->length, (uint32_t)(window->base + index));

@@ -26,7 +26,7 @@ pub struct Answer {
     pub header: [u8; 252],
 }
 
-// The span of cells: `struct srec_span`.
+// The span of cells: `struct srec_range`.
 #[repr(C)]
 pub struct Reach {
     pub any: u32,
