@@ -131,11 +131,12 @@ void tell_refused_sheet(const struct input *symbols, const struct input *sheet, 
     fprintf(stderr, "%s: field %zu, at byte %zu: %s (refusal %" PRIu32 ")\n", sheet->name, answer->record,
             answer->place, srec_reason(answer->reason), answer->reason);
     /* The expression of an address, as far as it is there: a tag, a length of two bytes, the characters. */
-    if (text <= sheet->length && sheet->bytes[answer->place] == 1) {
+    if (text < sheet->length && sheet->bytes[answer->place] == 1) {
         size_t length = (size_t)sheet->bytes[text - 2] << 8 | sheet->bytes[text - 1];
         size_t left = sheet->length - text;
 
-        show_text(sheet->bytes + text, length < left ? length : left);
+        if (length > 0)
+            show_text(sheet->bytes + text, length < left ? length : left);
     }
 }
 
