@@ -1,0 +1,1 @@
+diff examples/sample.srec sample-bare.s19
