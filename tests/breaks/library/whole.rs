@@ -6,7 +6,7 @@ use crate::parts::{self, State, MOST};
 use crate::reading::{self, Refusal, Writer, HEADER_ROOM};
 use crate::sheets::load_sheet;
 use crate::spans;
-use crate::symbols::load_behind;
+use crate::symbols::{load_behind, read_block};
 use crate::tape::{self, Edition};
 use crate::{lent, lent_mut};
 
@@ -88,9 +88,9 @@ fn span(found: Option<spans::Span>) -> Span {
 /// The edition of a tape that a format's number names; none for S-records.
 fn tape_of(format: u32) -> Option<Edition> {
     match format {
-        0 => None,
-        1 => Some(Edition::Repeat),
-        _ => Some(Edition::Sum),
+        0 => Some(Edition::Repeat),
+        1 => Some(Edition::Sum),
+        _ => None,
     }
 }
 
@@ -362,6 +362,11 @@ pub unsafe extern "C" fn srec_span_sheet(
     span(spans::span_sheet(lent(text, text_len), lent(sheet, sheet_len)))
 }
 
+#[no_mangle]
+pub unsafe extern "C" fn srec_behind(text: *const u8, text_len: usize) -> usize {
+    read_block(lent(text, text_len)).map_or(text_len, |block| block.end)
+}
+
 /// The most characters of a record that are held.
 const HELD: usize = 516;
 
@@ -384,6 +389,12 @@ pub struct Parts {
     held: usize,
     header: [u8; HEADER_ROOM],
     line: [u8; HELD],
+}
+
+#[repr(C)]
+pub struct Ended {
+    loaded: Loaded,
+    parts: Parts,
 }
 
 fn given(state: &State) -> Parts {
@@ -473,8 +484,11 @@ pub unsafe extern "C" fn srec_end(
     memory_len: usize,
     marks: *mut u8,
     marks_len: usize,
-) -> Loaded {
+) -> Ended {
     let (memory, marks) = (lent_mut(memory, memory_len), lent_mut(marks, marks_len));
-    let (answer, _) = parts::end(taken(&state), base, memory, marks);
-    loaded(&answer)
+    let (answer, behind) = parts::end(taken(&state), base, memory, marks);
+    Ended {
+        loaded: loaded(&answer),
+        parts: given(&behind),
+    }
 }

@@ -46,7 +46,7 @@ const OTHERS: [u32; 9] = [
 pub static FACES: [Face; 3] = [
     Face {
         format: &RECORDS,
-        numbers: &[0],
+        numbers: &OTHERS,
         span,
         origin,
         separators: b"\r\n",
@@ -54,7 +54,7 @@ pub static FACES: [Face; 3] = [
     },
     Face {
         format: &TAPES,
-        numbers: &[1],
+        numbers: &[0],
         span: |text| span_tape(Edition::Repeat, text),
         origin: |text, address| origin_tape(Edition::Repeat, text, address),
         separators: b"\r\n\0\x13",
@@ -62,7 +62,7 @@ pub static FACES: [Face; 3] = [
     },
     Face {
         format: &SUM_TAPES,
-        numbers: &OTHERS,
+        numbers: &[1],
         span: |text| span_tape(Edition::Sum, text),
         origin: |text, address| origin_tape(Edition::Sum, text, address),
         separators: b"\r\n\0\x13",

@@ -70,6 +70,14 @@ pub struct Parts {
     pub line: [u8; HELD],
 }
 
+/// What ended a load in parts: its answer, and the state behind it.
+#[repr(C)]
+#[derive(Clone, Copy, Debug)]
+pub struct Ended {
+    pub loaded: Loaded,
+    pub parts: Parts,
+}
+
 /// The second reading's answers as C has them.
 impl From<&reading::Loaded> for Loaded {
     fn from(loaded: &reading::Loaded) -> Loaded {
@@ -300,6 +308,8 @@ extern "C" {
 
     fn srec_span_sheet(text: In, text_len: usize, sheet: In, sheet_len: usize) -> Span;
 
+    fn srec_behind(text: In, text_len: usize) -> usize;
+
     fn srec_begin(base: u32, memory: In, memory_len: usize, marks: Out, marks_len: usize) -> Parts;
 
     fn srec_feed(
@@ -320,7 +330,7 @@ extern "C" {
         memory_len: usize,
         marks: Out,
         marks_len: usize,
-    ) -> Loaded;
+    ) -> Ended;
 }
 
 /// A buffer of length 0 may have any pointer: it is NULL here.
@@ -552,6 +562,11 @@ pub fn span_sheet(text: &[u8], sheet: &[u8]) -> Span {
     unsafe { srec_span_sheet(at(text), text.len(), at(sheet), sheet.len()) }
 }
 
+pub fn behind(text: &[u8]) -> usize {
+    // SAFETY: as above.
+    unsafe { srec_behind(at(text), text.len()) }
+}
+
 pub fn begin(base: u32, memory: &[u8], marks: &mut [u8]) -> Parts {
     // SAFETY: as above.
     unsafe { srec_begin(base, at(memory), memory.len(), at_mut(marks), marks.len()) }
@@ -573,7 +588,7 @@ pub fn feed(parts: Parts, part: &[u8], base: u32, memory: &mut [u8], marks: &mut
     }
 }
 
-pub fn end(parts: Parts, base: u32, memory: &mut [u8], marks: &mut [u8]) -> Loaded {
+pub fn end(parts: Parts, base: u32, memory: &mut [u8], marks: &mut [u8]) -> Ended {
     // SAFETY: as above.
     unsafe {
         srec_end(

@@ -100,12 +100,14 @@ impl Both {
     fn end(mut self) -> Result<(Loaded, LoadCase), String> {
         let base = self.left.base;
         let (memory, marks) = (self.memory.bytes_mut(), self.marks.bytes_mut());
-        let answer = whole::end(self.found, base, memory, marks);
+        let ended = whole::end(self.found, base, memory, marks);
+        self.found = ended.parts;
         let (memory, marks) = (&mut self.left.memory, &mut self.left.marks);
-        let (wanted, _) = parts::end(self.wanted.clone(), base, memory, marks);
-        same("end", answer, Loaded::from(&wanted))?;
-        self.agree_in_memory()?;
-        Ok((answer, self.left))
+        let (wanted, behind) = parts::end(self.wanted.clone(), base, memory, marks);
+        self.wanted = behind;
+        same("end", ended.loaded, Loaded::from(&wanted))?;
+        self.agree("end")?;
+        Ok((ended.loaded, self.left))
     }
 
     /// What a caller may read of the state, and all memory and marks.
@@ -212,7 +214,7 @@ fn bear(case: &LoadCase, random: &mut Random) -> Result<&'static str, String> {
     let (cells, bits) = (memory.bytes_mut(), marks.bytes_mut());
     let state = whole::feed(state, second, case.base, cells, bits);
     let (cells, bits) = (memory.bytes_mut(), marks.bytes_mut());
-    let answer = whole::end(state, case.base, cells, bits);
+    let answer = whole::end(state, case.base, cells, bits).loaded;
     // Whatever is stored, it is stored inside.
     memory.expect("memory", memory.bytes())?;
     marks.expect("marks", marks.bytes())?;

@@ -10,6 +10,7 @@ use second::cases::sheets::{sheets_case, ways, Call, Case, Size, CALLS, FULL, SM
 use second::random::Random;
 use second::sheets::HEAD;
 use second::spans::span_sheet;
+use second::symbols::read_block;
 
 /// The longest window that is made of a span.
 const LONGEST: u64 = 4_096;
@@ -87,6 +88,8 @@ fn compare(case: &Case, random: &mut Random, counts: &mut Counts) -> Result<(), 
     same("load", answer, Loaded::from(&wanted))?;
     memory.expect("memory", &left_memory)?;
     marks.expect("marks", &left_marks)?;
+    let rest = read_block(&case.load.text).map_or(case.load.text.len(), |block| block.end);
+    same("where the rest begins", whole::behind(text.bytes()), rest)?;
     if case.call == Call::Sheet {
         let span = whole::span_sheet(text.bytes(), sheet.bytes());
         let wanted = span_sheet(&case.load.text, &case.sheet);
