@@ -67,17 +67,18 @@ above (done s) lo k r m = absurd m
 -- so no record before the origin addresses the cell
 first-from : (p : Plan) (lo A : ℕ) → Numbered lo p → (r : Store) → Among r (storesOf p) → Covers A r → originOf A p .ordinal ≤ r .number
 first-from (store n at a ds p) lo A k r m c =
-    by-test (covers a (length ds) A) (λ t. rw t (low m)) (λ t. rw t (behind t m))
+    by-test (covers a (length ds) A) (λ t. rw t (low m)) (λ t. rw t (behind t m (λ i. first-from p n A (k .1) r i c)))
   where
     low : Among r (storesOf (store n at a ds p)) → n ≤ r .number
     low (inl e) = omega (arith, ap (λ (x : Store). x .number) e)
     low (inr i) = omega (arith, above p n (k .1) r i)
 
-    behind : covers a (length ds) A ≡ false → Among r (storesOf (store n at a ds p)) → originAmong A (storesOf p) .ordinal ≤ r .number
-    behind t (inl e) =
+    behind : covers a (length ds) A ≡ false → Among r (storesOf (store n at a ds p))
+        → (Among r (storesOf p) → originAmong A (storesOf p) .ordinal ≤ r .number) → originAmong A (storesOf p) .ordinal ≤ r .number
+    behind t (inl e) later =
         absurd (let z : _≡_ {A = Bool} true false
         = sym (covers-is A r c) ∙ ap (λ (x : Store). covers (x .addr) (length (x .bytes)) A) e ∙ t in let w : _≡_ {A = ℕ} 0 1 = cc in omega arith)
-    behind t (inr i) = first-from p n A (k .1) r i c
+    behind t (inr i) later = later i
 first-from (stop f) lo A k r m c = absurd m
 first-from (done s) lo A k r m c = absurd m
 
