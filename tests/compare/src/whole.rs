@@ -164,6 +164,9 @@ impl From<Option<spans::Origin>> for Origin {
     }
 }
 
+/// The number of S-records.
+pub const RECORDS: u32 = 2;
+
 /// The two words by which C says an entry: whether there is one, and which.
 pub type Entry = (u32, u32);
 

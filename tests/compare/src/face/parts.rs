@@ -174,7 +174,7 @@ fn compare(
 /// that is accepted.
 fn hold_whole(case: &LoadCase, answer: &Loaded, left: &LoadCase) -> Result<(), String> {
     let (mut memory, mut marks) = (case.memory.clone(), case.marks.clone());
-    let whole = whole::load(0, &case.text, case.base, &mut memory, &mut marks);
+    let whole = whole::load(whole::RECORDS, &case.text, case.base, &mut memory, &mut marks);
     same("the whole text", *answer, whole)?;
     same("marks of the whole text", &left.marks, &marks)?;
     if answer.reason == 0 {
