@@ -48,6 +48,11 @@ enum status make_window(uint32_t base, size_t length, const char *name, struct w
     return DONE;
 }
 
+int is_wide(struct srec_range span)
+{
+    return span.any && span.highest - span.lowest >= MOST_CELLS;
+}
+
 static void tell_too_wide(uint64_t base, uint64_t length, const char *name)
 {
     trouble(name,

@@ -29,6 +29,9 @@ struct image {
 struct srec_range span_of(const struct input *input);
 struct srec_range both_spans(struct srec_range one, struct srec_range other);
 
+/* Does a span take a window that has to be asked for? */
+int is_wide(struct srec_range span);
+
 /* Makes a window: the one that --window gives, else one that holds the span, from a multiple of `unit` to one. The name is
  * for messages, NULL for several files. Its buffers are the caller's to free with close_window, also after trouble. */
 enum status open_window(const struct options *options, struct srec_range span, size_t unit, const char *name,

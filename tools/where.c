@@ -8,14 +8,18 @@
 #include "place.h"
 #include "status.h"
 
-/* Tells where the text is refused, if it is: what stands there is not looked at. */
+/* Tells where the text is refused, if it is: what stands there is not looked at. Nothing is told of a text whose window would
+ * have to be asked for: the cells were looked for without one. */
 static enum status tell_refused(const struct input *input, const struct options *options)
 {
+    struct srec_range span = span_of(input);
     struct image image;
     enum status status;
 
+    if (!(options->given & OPTION_WINDOW) && is_wide(span))
+        return DONE;
     memset(&image, 0, sizeof image);
-    status = open_window(options, span_of(input), 1, input->name, &image.window);
+    status = open_window(options, span, 1, input->name, &image.window);
     if (status == DONE)
         status = load_image(input, &image);
     close_image(&image);

@@ -1,0 +1,1 @@
+where far.s37 5
