@@ -86,27 +86,59 @@ static void run(int program, char *srec, struct best *best)
         best->kib = usage.ru_maxrss;
 }
 
-static void write_file(const struct text *text)
+/* A text, and the program that read it last. */
+struct job {
+    size_t mib;
+    enum order order;
+    const char *name;
+};
+
+/* Takes a step in a process of its own: a program that is started later has the memory of the one that started it among
+ * its own peak. */
+static void apart(void (*step)(const struct job *), const struct job *job)
 {
+    int status;
+    pid_t child = fork();
+
+    if (child == 0) {
+        step(job);
+        exit(0);
+    }
+    if (child < 0 || waitpid(child, &status, 0) != child)
+        fail("program");
+    if (status != 0)
+        exit(1);
+}
+
+static struct text text_of(const struct job *job)
+{
+    return generate(job->order, job->mib * MIB / RECORD * SIZE, SIZE);
+}
+
+static void write_file(const struct job *job)
+{
+    struct text text = text_of(job);
     FILE *file = fopen(in, "wb");
-    if (!file || fwrite(text->chars, 1, text->length, file) != text->length || fclose(file) != 0)
+
+    if (!file || fwrite(text.chars, 1, text.length, file) != text.length || fclose(file) != 0)
         fail(in);
 }
 
-/* Ends the program if what was written last has not just the cells of the text. */
-static void check(const struct text *text, const char *name)
+/* Ends the process if what was written last has not just the cells of the text. */
+static void check(const struct job *job)
 {
     static uint8_t memory[2][MOST], marks[2][MOST], chars[4 * LARGEST * MIB];
-    size_t cells = text->cells;
+    struct text text = text_of(job);
+    size_t cells = text.cells;
     FILE *file = fopen(out, "rb");
     if (!file)
         fail(out);
     size_t length = fread(chars, 1, sizeof chars, file);
     fclose(file);
-    uint32_t rows = tuned_load(text->chars, text->length, 0, memory[0], cells, marks[0], cells);
+    uint32_t rows = tuned_load(text.chars, text.length, 0, memory[0], cells, marks[0], cells);
     rows |= tuned_load(chars, length, 0, memory[1], cells, marks[1], cells);
     if (rows != 0 || memcmp(memory[0], memory[1], cells) != 0 || memcmp(marks[0], marks[1], cells) != 0) {
-        fprintf(stderr, "program: %s wrote other cells\n", name);
+        fprintf(stderr, "program: %s wrote other cells\n", job->name);
         exit(1);
     }
 }
@@ -131,20 +163,20 @@ static void print_row(size_t mib, enum order order, const struct best best[PROGR
 /* A row of the table. Programs take turns, so that a disturbance does not meet one of them alone. */
 static void compare(size_t mib, enum order order, long rounds, char *srec)
 {
-    struct text text = generate(order, mib * MIB / RECORD * SIZE, SIZE);
+    struct job job = {mib, order, NULL};
     struct best best[PROGRAMS] = {{0, 0, 0}, {0, 0, 0}};
 
-    write_file(&text);
+    apart(write_file, &job);
     for (long round = 0; round < rounds; round++)
         for (int program = 0; program < PROGRAMS; program++) {
             if (best[program].stopped)
                 continue;
             run(program, srec, &best[program]);
+            job.name = program == SREC ? srec : "objcopy";
             if (round == 0 && !best[program].stopped)
-                check(&text, program == SREC ? srec : "objcopy");
+                apart(check, &job);
         }
     print_row(mib, order, best);
-    free(text.chars);
 }
 
 int main(int argc, char **argv)
@@ -159,6 +191,7 @@ int main(int argc, char **argv)
     snprintf(out, sizeof out, "%s/out.srec", argv[1]);
     printf("| MiB | records | srec canon, s | MiB | objcopy, s | MiB | times as fast |\n");
     printf("|--:|---|--:|--:|--:|--:|--:|\n");
+    fflush(stdout);
     for (size_t mib = 1; mib <= LARGEST; mib *= LARGEST) {
         compare(mib, IN_ORDER, rounds, argv[3]);
         compare(mib, SHUFFLED, rounds, argv[3]);
