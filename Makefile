@@ -1,5 +1,5 @@
 # make                the archive target/libsrec.a and the program target/srec
-# make install        header, archive, srec.pc, program and manual page under $(DESTDIR)$(PREFIX)
+# make install        header, archive, srec.pc, program and manual pages under $(DESTDIR)$(PREFIX)
 # make uninstall      removes what install put there
 # make clean          removes what make made, but not the proofs
 #
@@ -78,16 +78,18 @@ target/srec.pc: tools/srec.pc.in include/srec.h Makefile
 
 install: all target/srec.pc
 	$(INSTALL) -d $(DESTDIR)$(BINDIR) $(DESTDIR)$(LIBDIR) $(DESTDIR)$(INCLUDEDIR) $(DESTDIR)$(MANDIR)/man1 \
+	    $(DESTDIR)$(MANDIR)/man3 \
 	    $(DESTDIR)$(PKGCONFIGDIR)
 	$(INSTALL) -m 755 target/srec $(DESTDIR)$(BINDIR)/srec
 	$(INSTALL) -m 644 target/libsrec.a $(DESTDIR)$(LIBDIR)/libsrec.a
 	$(INSTALL) -m 644 include/srec.h $(DESTDIR)$(INCLUDEDIR)/srec.h
 	$(INSTALL) -m 644 target/srec.pc $(DESTDIR)$(PKGCONFIGDIR)/srec.pc
 	$(INSTALL) -m 644 tools/srec.1 $(DESTDIR)$(MANDIR)/man1/srec.1
+	$(INSTALL) -m 644 tools/srec.3 $(DESTDIR)$(MANDIR)/man3/srec.3
 
 uninstall:
 	rm -f $(DESTDIR)$(BINDIR)/srec $(DESTDIR)$(LIBDIR)/libsrec.a $(DESTDIR)$(INCLUDEDIR)/srec.h \
-	    $(DESTDIR)$(PKGCONFIGDIR)/srec.pc $(DESTDIR)$(MANDIR)/man1/srec.1
+	    $(DESTDIR)$(PKGCONFIGDIR)/srec.pc $(DESTDIR)$(MANDIR)/man1/srec.1 $(DESTDIR)$(MANDIR)/man3/srec.3
 
 # The crates' own archives stay: they take minutes.
 clean:

@@ -84,6 +84,15 @@ for source in "$root"/tests/c/*.c "$examples/canonical.c" "$bin/shown-header.c" 
     compile "$source"
 done
 
+named() { # the manual page names every function that the header declares
+    sed -n 's/^\(static inline \)\{0,1\}[a-z_0-9 ]*[ *]\(srec_[a-z_]*\)(.*/\2/p' "$include/srec.h" | sort -u >"$bin/functions"
+    [ "$(wc -l <"$bin/functions")" -ge 20 ] || return 1
+    while read -r function; do
+        grep -qw "$function" "$root/tools/srec.3" || { echo "$function is missing"; return 1; }
+    done <"$bin/functions"
+}
+check "srec(3) names each function" named
+
 command -v valgrind >/dev/null 2>&1 || echo "no valgrind here: 'watched' means the compiler's run-time checks"
 for name in words layout empty tape answers span images symbols parts; do
     check "$name, watched" watched "$name"
