@@ -1,5 +1,6 @@
 #!/bin/sh
 # Compiles the example and the programs here against include/srec.h and the library, as C99, C11 and C++, and runs them.
+# SREC_STAND_IN leaves out what a library that takes memory of its own cannot do.
 # SREC_LIB_DIR and SREC_INCLUDE_DIR name other folders for libsrec.a and srec.h, STRESS_CASES another number of cases.
 # One line a check; the last line is 'N passed, M failed'.
 set -u
@@ -99,13 +100,13 @@ for name in words layout empty tape answers span images symbols parts; do
     check "$name, as C++" "$bin/$name++"
     check "$name, with run-time checks" "$bin/$name-checked"
 done
-check "huge" "$bin/huge"
+[ -n "${SREC_STAND_IN:-}" ] || check "huge" "$bin/huge"
 check "stress, watched, $cases cases of each format" watched stress "$cases" "$examples"/*.srec
 cat "$bin/log"
 check "stress, with run-time checks, ${cases}0 cases of each format" "$bin/stress-checked" "${cases}0" "$examples"/*.srec
-check "hostile, watched, $cases cases of each function" watched hostile "$cases"
+[ -n "${SREC_STAND_IN:-}" ] || check "hostile, watched, $cases cases of each function" watched hostile "$cases"
 cat "$bin/log"
-check "hostile, with run-time checks, ${cases}0 cases of each function" "$bin/hostile-checked" "${cases}0"
+[ -n "${SREC_STAND_IN:-}" ] || check "hostile, with run-time checks, ${cases}0 cases of each function" "$bin/hostile-checked" "${cases}0"
 
 check "header's example, two cells" \
     prints '2 of 32768 cells' sh -c 'printf "S1058000AA557B\nS9030000FC\n" | "$0"' "$bin/shown-header"
