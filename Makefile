@@ -45,8 +45,13 @@ stands_on = $(shell awk -F '[: ]+' -v crate=$(1) ' \
 here = $(wildcard $(1:%=crates/%))
 sources_of = $(if $(here),$(shell find $(here) -type f ! -path '*/must-fail/*'))
 
+# What the archives stand on is proved first, on all processors: `rt staticlib` would take one crate after the other.
+target/proved: $(call sources_of,$(sort $(foreach crate,$(CRATES),$(call stands_on,$(crate)))))
+	$(RT) check $(CRATES)
+	touch $@
+
 define crate_rule
-target/staticlib/lib$(1).a: $$(call sources_of,$$(call stands_on,$(1)))
+target/staticlib/lib$(1).a: $$(call sources_of,$$(call stands_on,$(1))) | target/proved
 	$(RT) staticlib $(1)
 	touch $$@
 endef
@@ -94,4 +99,4 @@ uninstall:
 # The crates' own archives stay: they take minutes.
 clean:
 	rm -rf target/tools target/members
-	rm -f target/libsrec.a target/srec target/srec.pc
+	rm -f target/libsrec.a target/proved target/srec target/srec.pc

@@ -14,7 +14,6 @@ use Rattle.window.specs.Plans.{Summary, Outcome, refusal}
 use Rattle.window.specs.Plans.Outcome.{refused, accepted}
 use Rattle.lists.proofs.TestLaws.{Of, either}
 use Rattle.window.specs.declared.Loaded.{Loaded}
-use Rattle.window.specs.declared.Written.{Written}
 use Rattle.text.specs.Formats.{Format, plan}
 use Rattle.text.specs.Load.{load, loadAnswer, memoryAfter, marksAfter}
 use Rattle.text.specs.Write.{WriteOutcome, row17, textOf, write, writeAnswer, outputAfter}

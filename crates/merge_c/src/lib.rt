@@ -38,7 +38,7 @@ pub extern "C" fn srec_merge(
         patch_start,
     );
     let refusal = merged.refusal;
-    let result = merged.header;
-    let told = merged.entry;
-    c_answers::bare_answer(refusal, result, told)
+    let merged_header = merged.header;
+    let merged_entry = merged.entry;
+    c_answers::bare_answer(refusal, merged_header, merged_entry)
 }

@@ -58,11 +58,11 @@ pub none-otherwise : None-otherwise
 none-otherwise p A h = none-among (storesOf p) A h
 
 -- the records of a plan have rising numbers
-above : (p : Plan) (lo : ℕ) → Numbered lo p → (r : Store) → Among r (storesOf p) → lo < r .number
-above (store n at a ds p) lo k r (inl e) = omega (arith, k .0, ap (λ (x : Store). x .number) e)
-above (store n at a ds p) lo k r (inr m) = omega (arith, k .0, above p n (k .1) r m)
-above (stop f) lo k r m = absurd m
-above (done s) lo k r m = absurd m
+pub among-above : (n : ℕ) (p : Plan) (r : Store) → Numbered n p → Among r (storesOf p) → n < r .number
+among-above n (store m at a ds p) r k (inl e) = omega (arith, ap (λ (x : Store). x .number) e, k .0)
+among-above n (store m at a ds p) r k (inr x) = omega (arith, among-above m p r (k .1) x, k .0)
+among-above n (stop f) r k x = absurd x
+among-above n (done s) r k x = absurd x
 
 -- so no record before the origin addresses the cell
 first-from : (p : Plan) (lo A : ℕ) → Numbered lo p → (r : Store) → Among r (storesOf p) → Covers A r → originOf A p .ordinal ≤ r .number
@@ -71,7 +71,7 @@ first-from (store n at a ds p) lo A k r m c =
   where
     low : Among r (storesOf (store n at a ds p)) → n ≤ r .number
     low (inl e) = omega (arith, ap (λ (x : Store). x .number) e)
-    low (inr i) = omega (arith, above p n (k .1) r i)
+    low (inr i) = omega (arith, among-above n p r (k .1) i)
 
     behind : covers a (length ds) A ≡ false → Among r (storesOf (store n at a ds p))
         → (Among r (storesOf p) → originAmong A (storesOf p) .ordinal ≤ r .number) → originAmong A (storesOf p) .ordinal ≤ r .number

@@ -1,4 +1,4 @@
--- The span of the cells that data records address, and the record that a cell's byte comes from.
+-- The span of the cells that data records address, and the first record that addresses a cell.
 use Prim.Native.Nat.{ℕ, _+_, _-_, min, max}
 use mathlib.Core.Bool.{Bool, true, false, cond, _&&_}
 use mathlib.Core.List.{List, [], _∷_}

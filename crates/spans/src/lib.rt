@@ -1,4 +1,4 @@
-// The span of the cells that data records address, and the record that a cell's byte comes from.
+// The span of the cells that data records address, and the first record that addresses a cell.
 ghost use mathlib.Core.Path.{_≡_};
 ghost use Prim.Native.Nat.{_+_, _^_, _≤_, min, max};
 ghost use Rattle.spans.specs.Spans.{noSpan, widened, nowhere};

@@ -1,5 +1,5 @@
 // The span of the cells that a text's data records address, and the first record that addresses one cell. What is surveyed is what a load
-// reads: the records up to the first that a row other than 12 and 13 refuses.
+// reads that rows 12 and 13 let pass: the records up to the first that another row refuses.
 use formats::Format;
 use spans::Origin;
 use spans::Span;
@@ -34,7 +34,7 @@ fn trace(
     format: Format,
     table: &[u32; 256],
     found: Origin,
-    address: usize,
+    address: u32,
     head: Head,
     chars: &[u8],
 ) -> Origin
@@ -44,10 +44,11 @@ fn trace(
     if found.ordinal != 0 {
         return found;
     }
-    if address < head.address {
+    let cell = address as usize;
+    if cell < head.address {
         return spans::nowhere();
     }
-    let index = address - head.address;
+    let index = cell - head.address;
     if head.count <= index {
         return spans::nowhere();
     }
@@ -88,14 +89,7 @@ pub fn survey_text(format: Format, text: &[u8], address: u32) -> Survey
                     count,
                 };
                 span = spans::widen(span, first as usize, count);
-                origin = trace(
-                    format,
-                    &table,
-                    origin,
-                    address as usize,
-                    head,
-                    &text[from..to],
-                );
+                origin = trace(format, &table, origin, address, head, &text[from..to]);
                 state = next;
                 at = to;
                 continue;

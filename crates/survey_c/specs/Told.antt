@@ -1,4 +1,4 @@
--- What C is told of the record that a cell's byte comes from.
+-- What C is told of the first record that addresses a cell.
 use Rattle.spans.specs.declared.Origin.{Origin}
 use Rattle.survey_c.specs.declared.Source.{Source}
 

@@ -1,4 +1,4 @@
-// The span of a text's cells, and the record that a cell's byte comes from, for C. include/srec.h declares them.
+// The span of a text's cells, and the first record that addresses a cell, for C. include/srec.h declares them.
 use c_answers::Reach;
 ghost use mathlib.Core.Path.{_≡_};
 ghost use Rattle.text.specs.Formats.{plan};

@@ -1,9 +1,8 @@
 -- `srec_behind` meets its contract: right behind the bare `$$` of a good block.
-use mathlib.Core.Path.{_≡_, sym, ap, subst, _∙_}
+use mathlib.Core.Path.{sym, ap, subst, _∙_}
 use Prim.Native.Nat.{_+_, _≤_}
 use native.Mathlib.Omega.{arith}
 use lib.ListN.{length}
-use Rattle.symbols.specs.declared.Block.{Block}
 use Rattle.symbols.specs.Blocks.{Inside}
 use Rattle.symbol_c.specs.Rests.{behind}
 use borrow.Author.Needs.{needs}
