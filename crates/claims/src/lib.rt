@@ -24,7 +24,7 @@ fn mark(form: Form, marks: &mut [u8], cells: usize, from: usize, to: usize)
     ensures { λ _. ⌜ now (marks .exit) ≡ stored form (over (flags form cells (now (marks .entry))) from (replicate (to - from) 1)) ⌝ }
 {
     match form {
-        Form::Bytes => mark_bytes::fill(&mut marks[from..to], 1),
+        Form::Bytes => mark_bytes::cover(&mut marks[from..to], 1),
         Form::Packed => bits::set_bits(marks, from, to),
     }
 }

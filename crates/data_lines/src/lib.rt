@@ -52,20 +52,22 @@ pub fn put_cells(
     ensures { λ r. ⌜ r ≡ start + length (dataText format width (shown (plain form (windowOf base (now (memory .entry)) (now (marks .entry)))))) ⌝ }
     ensures { λ _. ⌜ now (out .exit) ≡ over (now (out .entry)) start (dataText format width (shown (plain form (windowOf base (now (memory .entry)) (now (marks .entry)))))) ⌝ }
 {
+    let table = hex_write::pair_table();
     let mut at = start;
     let cells = memory.len();
     let mut from = runs::next_marked(form, marks, cells, 0);
     while from < cells {
+        let address = base + from as u32;
+        if size::is_row(format, base, form, marks, cells, from) {
+            let end = from + size::ROW;
+            let kind = DATA_TYPE + width as u8;
+            at = srec_encode::put_row(&table, out, at, kind, width, address, &memory[from..end]);
+            from = size::next_run(form, marks, cells, end);
+            continue;
+        }
         let to = size::run_end(format, base, form, marks, cells, from);
-        at = put_run(
-            format,
-            out,
-            at,
-            width,
-            base + from as u32,
-            &memory[from..to],
-        );
-        from = runs::next_marked(form, marks, cells, to);
+        at = put_run(format, out, at, width, address, &memory[from..to]);
+        from = size::next_run(form, marks, cells, to);
     }
     at
 }

@@ -20,13 +20,6 @@ pub enum Format {
     Tape(Edition),
 }
 
-// A record's end: LF or CR.
-fn is_end(c: u8) -> bool
-    ensures { λ r. ⌜ r ≡ isEnd c ⌝ }
-{
-    c == b'\n' || c == b'\r'
-}
-
 // What stands between the lines of a tape: CR, LF, NUL or XOFF.
 fn is_pause(c: u8) -> bool
     ensures { λ r. ⌜ r ≡ isGap c ⌝ }
@@ -48,7 +41,7 @@ pub fn is_gap(format: Format, c: u8) -> bool
     ensures { λ r. ⌜ r ≡ formatOf format .gap c ⌝ }
 {
     match format {
-        Format::Records => is_end(c),
+        Format::Records => srec_fields::is_end(c),
         Format::Tape(_) => is_pause(c),
     }
 }

@@ -10,7 +10,7 @@ use lib.ListN.{length, getD, drop, length-drop}
 use borrow.Author.Tests.{le-leb, lt-leb, lt-ltb}
 use Rattle.hex.specs.Digits.{between, isHex, value, byteOf, bytes, firstBad}
 use Rattle.hex.specs.Numbers.{sum}
-use Rattle.hex.specs.Tables.{digitOr16, tableFrom, weight, digitTable, weighed}
+use Rattle.hex.specs.Tables.{digitOr16, tableFrom, weight, digitTable, weighed, pairOf, pairTable}
 use Rattle.lists.proofs.TestLaws.{by-test, below}
 use Rattle.hex.proofs.DigitLaws.{value-small, first-is}
 use Rattle.hex.proofs.PairLaws.{pair-split}
@@ -84,6 +84,11 @@ table-at f i (suc n) (suc k) h = table-at f (suc i) n k (le-of-suc-le-suc h) ∙
 pub weight-at : (c : ℕ) → c < 256 → getD digitTable c 0 ≡ weight c
 unfolding digitTable
 weight-at c h = table-at weight 0 256 c h ∙ ap weight (zero-add c)
+
+-- the table of pairs has at b both digits of b
+pub pair-at : (b : ℕ) → b < 256 → getD pairTable b 0 ≡ pairOf b
+unfolding pairTable
+pair-at b h = table-at pairOf 0 256 b h ∙ ap pairOf (zero-add b)
 
 -- ---- what a weight says
 

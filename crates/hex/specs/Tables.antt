@@ -1,8 +1,8 @@
 -- What a table of digits holds, and what its entries add up to.
-use Prim.Native.Nat.{ℕ, zero, suc, _+_, _*_}
+use Prim.Native.Nat.{ℕ, zero, suc, _+_, _*_, _/_, _%_}
 use mathlib.Core.Bool.{cond}
 use mathlib.Core.List.{List, [], _∷_}
-use Rattle.hex.specs.Digits.{isHex, value}
+use Rattle.hex.specs.Digits.{isHex, value, digit}
 
 -- the value of a digit, 16 for a character that is none
 unfoldable pub digitOr16 : ℕ → ℕ
@@ -26,3 +26,11 @@ abbrev pub weighed : List ℕ → ℕ
 weighed [] = 0
 weighed (c ∷ []) = 0
 weighed (c ∷ d ∷ cs) = 16 * weight c + weight d + weighed cs
+
+-- both digits of a byte as one number, the first in its low byte
+unfoldable pub pairOf : ℕ → ℕ
+pairOf b = digit (b / 16) + 256 * digit (b % 16)
+
+-- one entry for each byte
+unfoldable pub pairTable : List ℕ
+pairTable = tableFrom pairOf 0 256

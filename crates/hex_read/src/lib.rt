@@ -5,8 +5,9 @@ use table::DIGITS;
 pub use table::NONE;
 ghost use mathlib.Core.Path.{_≡_};
 ghost use mathlib.Core.Bool.{true};
+ghost use mathlib.Core.List.{[], _∷_};
 ghost use Prim.Native.Nat.{_*_, _≤_, _<_};
-ghost use lib.ListN.{length};
+ghost use lib.ListN.{length, take};
 ghost use Rattle.hex.specs.Digits.{isHex, value, byteOf, bytes, firstBad};
 ghost use Rattle.hex.specs.Numbers.{number};
 ghost use Rattle.hex.specs.Tables.{digitOr16, digitTable, weighed};
@@ -97,4 +98,14 @@ pub fn number_of(table: &[u32; 256], chars: &[u8]) -> u32
         k += 1;
     }
     a
+}
+
+// The number that the first `width` of four bytes stand for, by arithmetic on all four.
+pub fn first_number(a: u8, b: u8, c: u8, d: u8, width: usize) -> u32
+    requires { ⌜ (2 ≤ width) × (width ≤ 4) ⌝ }
+    ensures { λ r. ⌜ r ≡ number (take width (a ∷ b ∷ c ∷ d ∷ [])) ⌝ }
+{
+    let high = 256 * (a as u32) + b as u32;
+    let low = 256 * (c as u32) + d as u32;
+    (65536 * high + low) >> (8 * (4 - width))
 }

@@ -10,3 +10,7 @@ use Rattle.hex.specs.Numbers.{sum}
 -- nothing
 abbrev pub Tells : ℕ → List ℕ → Type 0
 Tells s cs = s < 131072 → (length cs ≤ firstBad cs) × (s ≡ sum (bytes cs))
+
+-- all characters are hex digits
+abbrev pub AreDigits : List ℕ → Type 0
+AreDigits cs = length cs ≤ firstBad cs

@@ -2,16 +2,37 @@
 use formats::Format;
 use text::Found;
 ghost use mathlib.Core.Path.{_≡_};
+ghost use mathlib.Core.Bool.{true};
 ghost use Prim.Native.Nat.{_≤_};
 ghost use lib.ListN.{length, drop};
 ghost use Rattle.text.specs.Lines.{front, lines};
 ghost use Rattle.text.specs.Finds.{leading, found};
 ghost use Rattle.formats.specs.Choices.{formatOf};
+ghost use Rattle.lines.specs.Gaps.{LoneEnd};
+
+// Characters above XOFF are no separators in any format.
+const XOFF: u8 = 0x13;
+
+// Does a text begin with LF alone, as between most lines? A no says nothing.
+fn is_one_gap(text: &[u8]) -> bool
+    ensures { λ r. ⌜ (r ≡ true → LoneEnd (now (text .entry))) ⌝ }
+{
+    if text.len() < 2 {
+        return false;
+    }
+    if text[0] != b'\n' {
+        return false;
+    }
+    text[1] > XOFF
+}
 
 // How many separators a text begins with.
 pub fn count_gaps(format: Format, text: &[u8]) -> usize
     ensures { λ r. ⌜ (r ≡ leading (formatOf format .gap) (now (text .entry))) × (r ≤ length (now (text .entry))) ⌝ }
 {
+    if is_one_gap(text) {
+        return 1;
+    }
     let mut i: usize = 0;
     while i < text.len() {
         if !formats::is_gap(format, text[i]) {

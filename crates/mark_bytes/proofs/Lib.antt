@@ -1,2 +1,3 @@
 pub mod MarkSearchLaws
 pub mod BadLaws
+pub mod CoverLaws

@@ -16,6 +16,27 @@ pub fn fill(part: &mut [u8], value: u8)
     }
 }
 
+// So many marks are set together.
+const BLOCK: usize = 16;
+
+// `fill` for the cells of a record: the first block and the last cover up to two, with lengths that the compiler knows.
+pub fn cover(part: &mut [u8], value: u8)
+    ensures { λ _. ⌜ now (part .exit) ≡ replicate (length (now (part .entry))) value ⌝ }
+{
+    let n = part.len();
+    if n < BLOCK {
+        fill(part, value);
+        return;
+    }
+    if n > 2 * BLOCK {
+        fill(part, value);
+        return;
+    }
+    let last = n - BLOCK;
+    fill(&mut part[0..BLOCK], value);
+    fill(&mut part[last..n], value);
+}
+
 // The bits that any mark of a part has. It looks at each, and does not leave before the end: that is faster.
 pub fn any_of(part: &[u8]) -> u8
     ensures { λ r. ⌜ (eqb r 0 ≡ isFree (now (part .entry))) × (ltb 1 r ≡ row16 (now (part .entry))) ⌝ }

@@ -1,7 +1,7 @@
 // Runs of marks of one byte a cell: whether none is set, where the next set one stands, and the next that is not.
 ghost use mathlib.Core.Path.{_≡_};
 ghost use mathlib.Core.Bool.{true};
-ghost use Prim.Native.Nat.{_+_, _≤_};
+ghost use Prim.Native.Nat.{_+_, _*_, _≤_, _<_};
 ghost use lib.ListN.{length, take, drop};
 ghost use Rattle.window.specs.Marks.{isFree};
 ghost use Rattle.window.specs.Walks.{unmarked, run};
@@ -32,15 +32,22 @@ fn skip_free(marks: &[u8], at: usize) -> usize
     i
 }
 
-// The same. Short records fill a block or two, which are seen at once; on long ones the plain loop is faster.
+// The same for the cells of a record: the first block and the last cover up to two, with lengths that the compiler knows.
 pub fn all_free(part: &[u8]) -> bool
     ensures { λ r. ⌜ r ≡ isFree (now (part .entry)) ⌝ }
 {
-    if part.len() > 4 * BLOCK {
+    let n = part.len();
+    if n < BLOCK {
         return is_free(part);
     }
-    let rest = skip_free(part, 0);
-    is_free(&part[rest..])
+    if n > 2 * BLOCK {
+        return is_free(part);
+    }
+    let last = n - BLOCK;
+    if !is_free(&part[0..BLOCK]) {
+        return false;
+    }
+    is_free(&part[last..n])
 }
 
 // The index of the first mark byte from `at` on that is set, or the number of marks.
@@ -90,4 +97,40 @@ pub fn end_byte(marks: &[u8], at: usize, to: usize) -> usize
         i += 1;
     }
     to
+}
+
+// Eight marks that are 1, as a number.
+const ONES: u64 = 0x0101_0101_0101_0101;
+
+// Four bytes as one number, the first lowest.
+fn four(a: u8, b: u8, c: u8, d: u8) -> u64
+    ensures { λ r. ⌜ (r ≡ a + 256 * b + 65536 * c + 16777216 * d) × (r < 4294967296) ⌝ }
+{
+    a as u64 + 256 * (b as u64) + 65536 * (c as u64) + 16777216 * (d as u64)
+}
+
+// Are eight marks all 1? They are seen as one number, of which the compiler makes one read.
+fn are_ones(part: &[u8]) -> bool
+    requires { ⌜ length (now part) ≡ 8 ⌝ }
+    ensures { λ r. ⌜ (r ≡ true → run (now (part .entry)) ≡ 8) ⌝ }
+{
+    let low = four(part[0], part[1], part[2], part[3]);
+    let high = four(part[4], part[5], part[6], part[7]);
+    low + 4294967296 * high == ONES
+}
+
+// Are a block of marks from `at` on all 1? A no says nothing.
+pub fn is_row(marks: &[u8], at: usize) -> bool
+    requires { ⌜ at ≤ length (now marks) ⌝ }
+    ensures { λ r. ⌜ (r ≡ true → (at + 16 ≤ length (now (marks .entry))) × (run (drop at (take (at + 16) (now (marks .entry)))) ≡ 16)) ⌝ }
+{
+    if marks.len() - at < BLOCK {
+        return false;
+    }
+    let middle = at + 8;
+    let end = at + BLOCK;
+    if !are_ones(&marks[at..middle]) {
+        return false;
+    }
+    are_ones(&marks[middle..end])
 }

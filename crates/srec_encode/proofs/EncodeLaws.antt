@@ -3,7 +3,7 @@ use mathlib.Core.Path.{_≡_, refl, sym, ap, _∙_}
 use Prim.Native.Nat.{ℕ, _+_, _*_, _-_, _%_, _≤_}
 use native.Mathlib.Omega.{arith}
 use mathlib.Core.List.{List, [], _∷_, _++_, append-assoc}
-use lib.ListN.{length, set, length-append}
+use lib.ListN.{length, length-append}
 use Rattle.hex.specs.Digits.{digitsOf}
 use Rattle.hex.specs.Numbers.{inBytes, sum}
 use Rattle.hex.proofs.DigitLaws.{length-pairs}
@@ -14,7 +14,7 @@ use Rattle.srec.specs.Reading.{checksum}
 use Rattle.srec.specs.Writing.{summed, recordWith, recordText}
 use Rattle.srec.specs.Canonical.{line}
 use Rattle.srec_encode.specs.Records.{lineWith, lineOf}
-use Rattle.lists.proofs.OverLaws.{over-two, over-next, over-store, over-all}
+use Rattle.lists.proofs.OverLaws.{over-next, over-all}
 use Rattle.hex_write.proofs.PutLaws.{digits-append, sum-append}
 
 -- the line that numbers describe is the record of the kind that has them, and LF
@@ -65,9 +65,9 @@ module _ (o : List ℕ) (kind : ℕ) (address ds : List ℕ) (h : length o ≡ 7
   abbrev before-check : List ℕ
   before-check = before-data ++ digitsOf ds
 
-  -- what is written before LF
-  abbrev before-end : List ℕ
-  before-end = before-check ++ digitsOf (check ∷ [])
+  -- what is written last
+  abbrev after-data : List ℕ
+  after-data = digitsOf (check ∷ []) ++ (10 ∷ [])
 
   -- the place of the data
   length-data : length before-data ≡ 4 + 2 * length address
@@ -77,33 +77,30 @@ module _ (o : List ℕ) (kind : ℕ) (address ds : List ℕ) (h : length o ≡ 7
   length-check : length before-check ≡ 4 + 2 * length address + 2 * length ds
   length-check = length-append before-data (digitsOf ds) ∙ omega (arith, length-data, length-pairs ds)
 
-  -- the place of LF
-  length-end : length before-end ≡ 4 + 2 * length address + 2 * length ds + 2
-  length-end = length-append before-check (digitsOf (check ∷ [])) ∙ omega (arith, length-check)
-
   -- all pieces together
-  pieces : before-end ++ (10 ∷ []) ≡ lineWith kind address ds
+  pieces : before-check ++ after-data ≡ lineWith kind address ds
   unfolding lineWith recordWith summed
-  pieces = rw (digits-append (address ++ ds) (check ∷ []), digits-append address ds)
+  pieces = rw (digits-append (address ++ ds) (check ∷ []), digits-append address ds) (sym (append-assoc before-check (digitsOf (check ∷ [])) (10 ∷ [])))
 
-  -- the output after each store of `put_fields`
-  abbrev pub stored : List ℕ
+  -- the output after all pieces
+  abbrev stored : List ℕ
   stored =
-      set (over (over (over (over (set (set o 0 83) 1 kind) 2 (digitsOf (count ∷ []))) 4 (digitsOf address))
-      (4 + 2 * length address) (digitsOf ds)) (4 + 2 * length address + 2 * length ds) (digitsOf (check ∷ [])))
-      (4 + 2 * length address + 2 * length ds + 2) 10
+      over (over (over (over o 0 before-address) 4 (digitsOf address)) (4 + 2 * length address) (digitsOf ds))
+      (4 + 2 * length address + 2 * length ds) after-data
 
-  -- they leave the line: the return of `put_fields`
-  pub line-stored : stored ≡ lineWith kind address ds
+  -- they leave the line
+  line-stored : stored ≡ lineWith kind address ds
   line-stored =
-      let l : 0 + 2 ≤ length o = omega (arith, h) in
       rw (
-        over-two o 0 83 kind l,
-        over-next o 0 (83 ∷ kind ∷ []) (digitsOf (count ∷ [])) 2 refl (omega arith),
         over-next o 0 before-address (digitsOf address) 4 refl (omega (arith, h)),
         over-next o 0 before-data (digitsOf ds) (4 + 2 * length address) (omega (arith, length-data)) (omega (arith, h)),
-        over-next o 0 before-check (digitsOf (check ∷ [])) (4 + 2 * length address + 2 * length ds) (omega (arith, length-check)) (omega (arith, h)),
-        over-store o 0 before-end 10 (4 + 2 * length address + 2 * length ds + 2) (omega (arith, length-end)) (omega (arith, h)),
-        over-all o (before-end ++ (10 ∷ [])) (ap length pieces ∙ length-with kind address ds ∙ sym h),
+        over-next o 0 before-check after-data (4 + 2 * length address + 2 * length ds) (omega (arith, length-check)) (omega (arith, h)),
+        over-all o (before-check ++ after-data) (ap length pieces ∙ length-with kind address ds ∙ sym h),
       )
       pieces
+
+  -- piece by piece: the return of `put_fields` and of `put_row_fields`
+  pub line-written : (o₁ o₂ o₃ o₄ : List ℕ) (c : ℕ) → o₁ ≡ over o 0 before-address → o₂ ≡ over o₁ 4 (digitsOf address)
+      → o₃ ≡ over o₂ (4 + 2 * length address) (digitsOf ds) → c ≡ check
+      → o₄ ≡ over o₃ (4 + 2 * length address + 2 * length ds) (digitsOf (c ∷ []) ++ (10 ∷ [])) → o₄ ≡ lineWith kind address ds
+  line-written o₁ o₂ o₃ o₄ c head address-put data-put sum tail = rw (tail, data-put, address-put, head, sum) line-stored

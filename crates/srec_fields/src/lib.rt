@@ -1,10 +1,14 @@
 // The fields of a record: its type, the address bytes of a type, and whether its count fits.
 ghost use mathlib.Core.Path.{_≡_};
-ghost use mathlib.Core.Bool.{not};
-ghost use Prim.Native.Nat.{_≤_, _<_};
+ghost use mathlib.Core.Bool.{true, not};
+ghost use Prim.Native.Nat.{_-_, _≤_, _<_};
+ghost use lib.ListN.{length};
+ghost use Rattle.hex.specs.Tables.{digitTable};
+ghost use Rattle.srec.specs.Lines.{isEnd};
 ghost use Rattle.srec.specs.Kinds.{kindOf, known};
 ghost use Rattle.srec.specs.Reading.{row6};
 ghost use Rattle.srec_fields.specs.Records.{widthOr0, widthIn};
+ghost use Rattle.srec_fields.specs.Shapes.{DataAt};
 
 // A record's most and least characters: S, type, and the pairs of a count of 255, or of a count alone.
 pub const MOST_CHARS: usize = 514;
@@ -68,4 +72,56 @@ pub fn width_in(chars: &[u8]) -> usize
         return 0;
     }
     width_of(chars[1])
+}
+
+// A record's end: LF or CR.
+pub fn is_end(c: u8) -> bool
+    ensures { λ r. ⌜ r ≡ isEnd c ⌝ }
+{
+    c == b'\n' || c == b'\r'
+}
+
+// A data type less its address bytes.
+const DATA_TYPE: u8 = b'1' - 2;
+
+// The address bytes of a data type.
+pub fn data_width(kind: u8) -> usize
+    requires { ⌜ (49 ≤ kind) × (kind ≤ 51) ⌝ }
+    ensures { λ r. ⌜ r ≡ kind - 47 ⌝ }
+{
+    (kind - DATA_TYPE) as usize
+}
+
+// Where the data record at a place ends by its count, if a line end stands there; 0 where this does not show.
+pub fn data_end(table: &[u32; 256], text: &[u8], from: usize) -> usize
+    requires { ⌜ (now table ≡ digitTable) × (from ≤ length (now text)) ⌝ }
+    ensures { λ r. ⌜ ((r ≡ 0 → ⊥) → DataAt (now (text .entry)) from r) ⌝ }
+{
+    let left = text.len() - from;
+    if left < LEAST_CHARS {
+        return 0;
+    }
+    if text[from] != b'S' {
+        return 0;
+    }
+    let kind = text[from + 1];
+    if kind < b'1' {
+        return 0;
+    }
+    if kind > b'3' {
+        return 0;
+    }
+    let count = hex_read::byte_of(table, text[from + 2], text[from + 3]) as usize;
+    if count <= data_width(kind) {
+        return 0;
+    }
+    let size = LEAST_CHARS + 2 * count;
+    if left <= size {
+        return 0;
+    }
+    let to = from + size;
+    if !is_end(text[to]) {
+        return 0;
+    }
+    to
 }

@@ -10,6 +10,7 @@ ghost use lib.ListN.{length};
 ghost use Rattle.hex.specs.Tables.{digitTable};
 ghost use Rattle.text.specs.Steps.{stateWith, asStep, SureIs};
 ghost use Rattle.srec.specs.Formats.{srec};
+ghost use Rattle.srec_fields.specs.Shapes.{DataShape};
 ghost use Rattle.srec_step.specs.Refusals.{refusing};
 
 // The refusal of a record that cannot be read; one that can be is never handed in.
@@ -46,5 +47,20 @@ pub fn good_step(table: &[u32; 256], state: State, chars: &[u8], place: usize) -
         return Sure::No;
     };
     let step = srec_judge::judge(state, kind, address, count, place);
+    Sure::Yes(step)
+}
+
+// The same for a record of the shape of a data record, which a walk over its digits takes fewer tests for.
+pub fn data_step(table: &[u32; 256], state: State, chars: &[u8], place: usize) -> Sure
+    requires { ⌜ (now table ≡ digitTable) × (place + length (now chars) < 2 ^ 64) ⌝ }
+    requires { ⌜ (state .number + length (now chars) < 2 ^ 64) × (state .records + length (now chars) < 2 ^ 64) × (state .cells + length (now chars) < 2 ^ 64) ⌝ }
+    requires { ⌜ DataShape (now chars) ⌝ }
+    ensures { λ r. ⌜ SureIs srec state place (now (chars .entry)) r ⌝ }
+{
+    let answer = srec_good::read_data(table, chars);
+    let Record::Good(kind, address, size) = answer else {
+        return Sure::No;
+    };
+    let step = srec_judge::judge(state, kind, address, size, place);
     Sure::Yes(step)
 }

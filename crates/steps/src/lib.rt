@@ -13,6 +13,7 @@ ghost use Rattle.hex.specs.Tables.{digitTable};
 ghost use Rattle.text.specs.Lines.{lines};
 ghost use Rattle.text.specs.Steps.{stateWith, asStep, SureIs, taken};
 ghost use Rattle.formats.specs.Choices.{formatOf};
+ghost use Rattle.steps.specs.Sures.{SureTaken};
 
 // What a line does that stands at a place of its text, behind the lines before it.
 fn step_of(format: Format, table: &[u32; 256], state: State, chars: &[u8], place: usize) -> Step
@@ -51,12 +52,37 @@ fn search_next(format: Format, table: &[u32; 256], state: State, text: &[u8], at
     Taken::Line { from, to, step }
 }
 
+// Takes the next line if it is a data record that no row of 3 to 7 refuses, as most lines of most texts are; or none, which says
+// nothing.
+fn take_data(format: Format, table: &[u32; 256], state: State, text: &[u8], at: usize) -> Taken
+    requires { ⌜ (now table ≡ digitTable) × (at ≤ length (now text)) × (state .number ≤ at) × (state .records ≤ at) × (state .cells ≤ at) ⌝ }
+    ensures { λ r. ⌜ SureTaken r (taken (formatOf format) state (lines (formatOf format .gap) at (drop at (now (text .entry))))) ⌝ }
+{
+    let Format::Records = format else {
+        return Taken::Nothing;
+    };
+    let from = at + lines::count_gaps(format, &text[at..]);
+    let to = srec_fields::data_end(table, text, from);
+    if to == 0 {
+        return Taken::Nothing;
+    }
+    let answer = srec_step::data_step(table, state, &text[from..to], from);
+    let Sure::Yes(step) = answer else {
+        return Taken::Nothing;
+    };
+    Taken::Line { from, to, step }
+}
+
 // Takes the next line from a place on, and what it does behind the lines before it. Its count says where it may end. A good line
 // that ends there has no separator inside, so it is the next one. This way may only say yes; for all else the end is searched.
 pub fn take_next(format: Format, table: &[u32; 256], state: State, text: &[u8], at: usize) -> Taken
     requires { ⌜ (now table ≡ digitTable) × (at ≤ length (now text)) × (state .number ≤ at) × (state .records ≤ at) × (state .cells ≤ at) ⌝ }
     ensures { λ r. ⌜ r ≡ taken (formatOf format) state (lines (formatOf format .gap) at (drop at (now (text .entry)))) ⌝ }
 {
+    let near = take_data(format, table, state, text, at);
+    if let Taken::Line { from, to, step } = near {
+        return Taken::Line { from, to, step };
+    }
     let from = at + lines::count_gaps(format, &text[at..]);
     let to = line_counts::counted_end(format, table, text, from);
     let answer = good_step(format, table, state, &text[from..to], from);

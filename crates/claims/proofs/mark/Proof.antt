@@ -11,8 +11,8 @@ use borrow.Author.Needs.{needs}
 use Rattle.claims.proofs.mark.Statement.{statement}
 use Rattle.claims.proofs.mark.Tie as tie
 
-part-fill-end : tie.Need-part-fill-end
-part-fill-end c =
+part-cover-end : tie.Need-part-cover-end
+part-cover-end c =
     let s = c .before .before .before in
     let a = s .args in
     let e = bytes-long (a .form) (a .cells) (a .marks .now) (tidy-length (a .form) (a .cells) (a .marks .now) (s .pre .2)) (c .enum-told .given .1) in
@@ -28,12 +28,12 @@ set-bits-requires c κs =
 
 returns : tie.Need-returns
 returns c =
-    let at-fill = c .before .before in
-    let t = at-fill .before .before in
+    let at-cover = c .before .before in
+    let t = at-cover .before .before in
     let s = t .before .before .before in
     let a = s .args in
     let e = bytes-long (a .form) (a .cells) (a .marks .now) (tidy-length (a .form) (a .cells) (a .marks .now) (s .pre .2)) (t .enum-told .given .1) in
-    rw (t .enum-told .given .1) (lent-filled (a .from) _ (a .to - a .from) 1 (a .marks .now) _ refl (omega arith) (at-fill .fill .ensures))
+    rw (t .enum-told .given .1) (lent-filled (a .from) _ (a .to - a .from) 1 (a .marks .now) _ refl (omega arith) (at-cover .cover .ensures))
 
 returns-2 : tie.Need-returns-2
 returns-2 c =
@@ -53,7 +53,7 @@ mark-spec =
     (λ c. search needs)
     (λ c. search needs)
     (λ c. search needs)
-    part-fill-end
+    part-cover-end
     (λ c κs. search needs)
     (λ c. search needs)
     set-bits-requires

@@ -4,12 +4,13 @@ use native.Mathlib.Omega.{arith}
 use Rattle.hex.specs.Numbers.{sum}
 use Rattle.hex_sum.proofs.SumLaws.{Digits}
 use borrow.Author.Needs.{needs}
+use borrow.Author.Tests.{not-false}
 use Rattle.hex_sum.proofs.sum_block.Statement.{statement}
 use Rattle.hex_sum.proofs.sum_block.Tie as tie
 
 -- all are digits
 digits-at : (c : tie.Else1) → Digits (c .before .before .before .args .chars .now)
-digits-at c = c .before .count-faults .ensures (c .if1 .left)
+digits-at c = c .before .are-digits .ensures (not-false _ (c .if1 .left))
 
 returns-2 : tie.Need-returns-2
 returns-2 c =

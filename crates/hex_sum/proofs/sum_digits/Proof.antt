@@ -55,7 +55,7 @@ returns c =
     let t = s .args .chars .now in
     let w : c .weigh .result ≡ weighed (drop (l .i) t) = c .weigh .ensures .0 ∙ ap weighed (rest (l .i) t) in
     let even : length (drop (l .i) t) % 2 ≡ 0 = omega (arith, length-drop (l .i) t, s .pre .2, l .inv .1) in
-    l .inv .3 (c .weigh .result) (rw w (weight-tells (drop (l .i) t) even))
+    (l .inv .3 (c .weigh .result) (rw w (weight-tells (drop (l .i) t) even)), omega (arith, c .weigh .ensures .1, left-long (c .before)))
 
 pub sum-digits-spec : {M : Type 1} → statement M
 sum-digits-spec =

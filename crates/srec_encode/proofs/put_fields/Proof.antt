@@ -1,77 +1,37 @@
 -- `put_fields` meets its contract: the pieces that it writes are the line.
 use mathlib.Core.Path.{_≡_, _∙_}
 use native.Mathlib.Omega.{arith}
-use lib.ListN.{length, length-set}
+use lib.ListN.{length}
 use borrow.Author.Needs.{needs}
-use Rattle.srec_encode.proofs.EncodeLaws.{line-stored}
+use Rattle.srec_encode.proofs.EncodeLaws.{line-written}
 use Rattle.srec.specs.Writing.{summed}
 use Rattle.srec_encode.proofs.put_fields.Statement.{statement}
 use Rattle.srec_encode.proofs.put_fields.Tie as tie
 
-slice-write-out-2 : tie.Need-slice-write-out-2
-slice-write-out-2 c = simp length-set (omega arith)
+-- the call, after the address and after the data
+abbrev call : tie.After-put-pairs → tie.Start
+call c = c .before .before .before .before .before .before .before .before .before .before
 
-put-pair-requires : tie.Need-put-pair-requires
-put-pair-requires c κs = simp length-set (omega arith)
+abbrev at-address : tie.After-put-pairs2 → tie.After-put-pairs
+at-address c = c .before .before .before .before
 
--- the call, from behind each field
-abbrev behind-count : tie.After-put-pair → tie.Start
-behind-count c = c .before .before .before .before .before .before
+-- the output keeps its length
+after-address : (c : tie.After-put-pairs) → length (c .put-pairs .last .0) ≡ length (call c .args .out .now)
+after-address c = c .put-pairs .kept .0 ∙ c .before .before .before .before .put-head .kept .0
 
-abbrev behind-address : tie.After-put-pairs → tie.Start
-behind-address c = behind-count (c .before .before .before .before)
-
-abbrev behind-bytes : tie.After-put-pairs2 → tie.Start
-behind-bytes c = behind-address (c .before .before .before .before)
-
-abbrev behind-check : tie.After-put-pair2 → tie.Start
-behind-check c = behind-bytes (c .before .before .before .before)
-
--- the output keeps its length, field by field
-after-count : (c : tie.After-put-pair) → length (c .put-pair .last .0) ≡ length (behind-count c .args .out .now)
-after-count c = simp length-set at (c .put-pair .kept .0)
-
-after-address : (c : tie.After-put-pairs) → length (c .put-pairs .last .0) ≡ length (behind-address c .args .out .now)
-after-address c = c .put-pairs .kept .0 ∙ after-count (c .before .before .before .before)
-
-after-bytes : (c : tie.After-put-pairs2) → length (c .put-pairs2 .last .0) ≡ length (behind-bytes c .args .out .now)
-after-bytes c = c .put-pairs2 .kept .0 ∙ after-address (c .before .before .before .before)
-
-after-check : (c : tie.After-put-pair2) → length (c .put-pair2 .last .0) ≡ length (behind-check c .args .out .now)
-after-check c = c .put-pair2 .kept .0 ∙ after-bytes (c .before .before .before .before)
-
-put-pairs-requires : tie.Need-put-pairs-requires
-put-pairs-requires c κs = omega (arith, after-count (c .before .before .before))
-
-put-pairs-requires-2 : tie.Need-put-pairs-requires-2
-put-pairs-requires-2 c κs = omega (arith, after-address (c .before .before .before))
-
-put-pair-requires-2 : tie.Need-put-pair-requires-2
-put-pair-requires-2 c κs = omega (arith, after-bytes (c .before .before .before))
-
-slice-write-out-3 : tie.Need-slice-write-out-3
-slice-write-out-3 c = omega (arith, after-check (c .before .before))
-
-same-length : tie.Need-same-length
-same-length c = simp length-set (after-check (c .before .before))
+after-data : (c : tie.After-put-pairs2) → length (c .put-pairs2 .last .0) ≡ length (call (at-address c) .args .out .now)
+after-data c = c .put-pairs2 .kept .0 ∙ after-address (at-address c)
 
 returns : tie.Need-returns
 unfolding summed
 returns c =
-    let at-put-pair2 = c .before .before in
-    let at-put-pairs2 = at-put-pair2 .before .before .before .before in
-    let at-put-pairs = at-put-pairs2 .before .before .before .before in
-    let at-put-pair = at-put-pairs .before .before .before .before in
-    let at-check-byte = at-put-pair .before .before in
-    let s = at-check-byte .before .before .before .before in
-    rw (
-      at-put-pair2 .put-pair2 .ensures,
-      at-put-pairs2 .put-pairs2 .ensures,
-      at-put-pairs .put-pairs .ensures,
-      at-put-pair .put-pair .ensures,
-      at-check-byte .check-byte .ensures,
-    )
-    (line-stored (s .args .out .now) (s .args .kind) (s .args .address .now) (s .args .bytes .now) (s .pre .1))
+    let tail = c .before .before in
+    let data-put = tail .before .before .before .before in
+    let address-put = at-address data-put in
+    let head = address-put .before .before .before .before in
+    let s = call address-put in
+    line-written (s .args .out .now) (s .args .kind) (s .args .address .now) (s .args .bytes .now) (s .pre .1) _ _ _ _ _
+    (head .put-head .ensures) (address-put .put-pairs .ensures) (data-put .put-pairs2 .ensures) (head .before .before .check-byte .ensures) (tail .put-tail .ensures)
 
 pub put-fields-spec : {M : Type 1} → statement M
 put-fields-spec =
@@ -85,13 +45,9 @@ put-fields-spec =
     (λ c. search needs)
     (λ c. search needs)
     (λ c. search needs)
-    (λ c. search needs)
-    (λ c. search needs)
-    slice-write-out-2
-    put-pair-requires
-    put-pairs-requires
-    put-pairs-requires-2
-    put-pair-requires-2
-    slice-write-out-3
-    same-length
+    (λ c κs. search needs)
+    (λ c κs. omega (arith, c .before .before .before .put-head .kept .0))
+    (λ c κs. omega (arith, after-address (c .before .before .before)))
+    (λ c κs. omega (arith, after-data (c .before .before .before)))
+    (λ c. c .before .before .put-tail .kept .0 ∙ after-data (c .before .before .before .before .before .before))
     returns)

@@ -1,6 +1,6 @@
 -- `read_good` meets its contract: a good answer is a law of ReadLaws, and a bad one says nothing.
 use mathlib.Core.Path.{_≡_, sym, ap, _∙_, subst}
-use Prim.Native.Nat.{ℕ, _+_, _-_, _*_, _<_}
+use Prim.Native.Nat.{ℕ, _+_, _-_, _*_, _%_, _<_}
 use native.Mathlib.Nat.{add-sub-cancel-left}
 use native.Mathlib.Omega.{arith}
 use mathlib.Core.Bool.{false}
@@ -55,15 +55,17 @@ even-at c =
     omega (arith, k .0, length-drop 2 (chars e))
 
 tells-at : (c : tie.After-sum-digits) → Tells (c .sum-digits .result) (drop 2 (chars (own c)))
-tells-at c = subst (Tells (c .sum-digits .result)) (rest 2 (chars (own c))) (c .sum-digits .ensures)
+tells-at c = subst (Tells (c .sum-digits .result)) (rest 2 (chars (own c))) (c .sum-digits .ensures .0)
 
-sized-at : (c : tie.Else3) → Sized (chars (own (c .before))) (width (own (c .before))) (n (c .before))
+right-at : (c : tie.Else3) → let x = c .before .before .sum-digits .result in (x < 131072) × (x % 256 ≡ 255)
+right-at c = c .before .is-right .ensures (not-false _ (c .if3 .left))
+
+sized-at : (c : tie.Else3) → let w = c .before .before in Sized (chars (own w)) (width (own w)) (n w)
 sized-at c =
-    let w = c .before in
+    let w = c .before .before in
     let l = chars (own w) in
     let h = head-at (own w) in
-    let small : w .sum-digits .result < 131072 = omega (arith, c .if3 .left) in
-    sized l (width (own w)) (n w) h (at-count w .byte-of .ensures ∙ count-at l (h .four)) (six-at (w .before .before)) (tells-at w small .0)
+    sized l (width (own w)) (n w) h (at-count w .byte-of .ensures ∙ count-at l (h .four)) (six-at (w .before .before)) (tells-at w (right-at c .0) .0)
 
 shared-slice-read-kind : tie.Need-shared-slice-read-kind
 shared-slice-read-kind c = omega (arith, head-at (c .before) .four)
@@ -90,20 +92,20 @@ sum-digits-requires c κs =
     (search needs, rw (rest 2 (chars e)) (omega (arith, long)), rw (rest 2 (chars e)) (omega (arith, long)))
 
 part-number-of-end : tie.Need-part-number-of-end
-part-number-of-end c = let z = sized-at (c .before) in omega (arith, z .long, z .least)
+part-number-of-end c = let z = sized-at c in omega (arith, z .long, z .least)
 
 sub-size : tie.Need-sub-size
-sub-size c = sized-at (c .before .before .before) .least
+sub-size c = sized-at (c .before .before) .least
 
-returns-5 : tie.Need-returns-5
-returns-5 c =
-    let at-else3 = c .before .before .before in
-    let at-sum = at-else3 .before in
+returns-4 : tie.Need-returns-4
+returns-4 c =
+    let past = c .before .before in
+    let at-sum = past .before .before in
     let l = chars (own at-sum) in
     let w = width (own at-sum) in
-    let z = sized-at at-else3 in
-    let small : at-sum .sum-digits .result < 131072 = omega (arith, at-else3 .if3 .left) in
-    let right = checked l w (n at-sum) z (omega (arith, tells-at at-sum small .1, c .before .before .if4 .left)) in
+    let z = sized-at past in
+    let r = right-at past in
+    let right = checked l w (n at-sum) z (omega (arith, tells-at at-sum (r .0) .1, r .1)) in
     let a : c .number-of .result ≡ number (bytes (take (2 * w) (drop 4 l))) = rw add-sub-cancel-left at (c .number-of .ensures) in
     ap (λ (x : ℕ). Good (getD l 1 0) x (n at-sum - (w + 1))) a ∙ good-record l w (n at-sum) z right 0
 
@@ -124,7 +126,7 @@ read-good-spec =
     part-sum-digits-start
     (λ c. search needs)
     sum-digits-requires
-    (λ c. search needs)
+    (λ c κs. search needs)
     (λ c. search needs)
     (λ c. search needs)
     (λ c. search needs)
@@ -134,4 +136,4 @@ read-good-spec =
     (λ c κs. search needs)
     (λ c. search needs)
     sub-size
-    returns-5)
+    returns-4)

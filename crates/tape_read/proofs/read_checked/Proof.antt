@@ -45,7 +45,7 @@ tells-at : (c : tie.Else5)
     → (length (drop 1 (own c)) ≤ firstBad (drop 1 (own c))) × (c .before .sum-digits .result ≡ sum (bs (own c)))
 tells-at c =
     let t : Tells (c .before .sum-digits .result) (drop 1 (own c))
-    = subst (Tells (c .before .sum-digits .result)) (rest 1 (own c)) (c .before .sum-digits .ensures) in
+    = subst (Tells (c .before .sum-digits .result)) (rest 1 (own c)) (c .before .sum-digits .ensures .0) in
     t (omega (arith, c .if5 .left))
 
 long-at : (c : tie.Else5) → length (own c) ≡ 11 + 2 * len c

@@ -1,8 +1,8 @@
 -- `is_end` meets its contract: the two tests of `isEnd` in order.
 use borrow.Author.Tests.{eq-eqb, ne-eqb}
 use Rattle.srec.specs.Lines.{isEnd}
-use Rattle.formats.proofs.is_end.Statement.{statement}
-use Rattle.formats.proofs.is_end.Tie as tie
+use Rattle.srec_fields.proofs.is_end.Statement.{statement}
+use Rattle.srec_fields.proofs.is_end.Tie as tie
 
 returns : tie.Need-returns
 unfolding isEnd
