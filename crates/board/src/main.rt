@@ -5,20 +5,30 @@
 //     board collect K IN OUT    loads the chips IN.0, IN.1, .. and writes the canonical text of the whole to OUT
 //
 // Every text that is written has an empty header and the entry 0. What goes wrong is a line on standard output.
-ghost use Rattle.std.specs.Prelude.{◌≡◌, ◌≤◌, length};
+#![tactic(auto)]
 
-use libc::STDOUT_FILENO;
+mod buffers;
+mod failure;
+
+ghost use Rattle.std.specs.Prelude.{◌≡◌, ◌≤◌, ◌++◌, IfOk, codes, decimal, string_bytes};
+
+use buffers::Buffers;
+use failure::Failure;
+use std::alloc::{AllocError, Global};
+use std::fmt::Write;
+use std::fs::File;
+use std::io::Read;
+use std::rt::{Env, Files};
+use std::{env, fs, io};
 use window::{Entry, Refusal};
 
 // The most characters of a file.
 const MOST: usize = 262144;
 
-// The window's address and cells, and the most cells of a chip.
+// The window's address and cells.
 const BASE: u32 = 0;
 
 const CELLS: usize = 65536;
-
-const MOST_SHARE: usize = CELLS / 2;
 
 // The canonical text at its longest: S0; in each row of 16 cells 8 records, one of 2 cells and 7 of one, whose addresses have 2 bytes;
 // S5 and S9.
@@ -29,350 +39,302 @@ const ROOM: usize = 11 + ROWS * (8 * 11 + 2 * 9) + 11 + 11;
 // A name has at most so many bytes: with a dot and a digit as many as a path may have.
 const NAME: usize = 4093;
 
-const PATH: usize = NAME + 2;
-
-// Prints what cannot be done with a file, and answers false.
-fn cannot(what: &[u8], name: &[u8]) -> bool {
-    io::write_all(STDOUT_FILENO, what);
-    io::write_all(STDOUT_FILENO, name);
-    io::write_all(STDOUT_FILENO, b"\n");
-    false
-}
-
-// Is this the refusal of nothing? Any other is printed.
-fn is_accepted(refusal: Refusal) -> bool {
+// Fails with any refusal but that of nothing.
+fn accept(refusal: Refusal) -> Result<(), Failure> {
     if refusal.reason == 0 {
-        return true;
+        return Ok(());
     }
-    report::print_refusal(refusal);
-    false
+    Err(Failure::Refused(refusal))
 }
 
-// Loads a file into a window. If that cannot be done, it prints why and answers false.
-fn load_file(name: &[u8], memory: &mut [u8], marks: &mut [u8]) -> bool {
-    let file = os::open_read(name);
-    if file < 0 {
-        return cannot(b"cannot read ", name);
-    }
-    let mut text = [0u8; MOST];
-    let n = io::read_full(file, &mut text);
-    // one read more: it gives nothing at the file's end, and fails where the last one failed
-    let mut next = [0u8; 1];
-    let more = libc::read(file, &mut next);
-    libc::close(file);
-    if more < 0 {
-        return cannot(b"cannot read ", name);
-    }
-    if more > 0 {
-        io::write_all(STDOUT_FILENO, b"too long\n");
-        return false;
-    }
-    let loaded = load::load(&text[..n], BASE, memory, marks);
-    let refusal = loaded.refusal;
-    is_accepted(refusal)
+// The first characters of a file: one more than is taken, to see a file that is too long.
+fn read_file<R: Files + AllocGlobal>(rt: &R, name: &str) -> io::Result<Vec<u8>> {
+    let mut text = Vec::new(rt.alloc());
+    File::open(rt, name)?
+        .take(MOST as u64 + 1)
+        .read_to_end(&mut text)?;
+    Ok(text)
 }
 
-// Writes a text to a file, which is overwritten. If that cannot be done, it prints so and answers false.
-fn write_file(name: &[u8], text: &[u8]) -> bool {
-    let file = os::open_overwrite(name);
-    if file < 0 {
-        return cannot(b"cannot write ", name);
+// Loads a file into a window.
+fn load_file<R: Files + AllocGlobal>(
+    rt: &R,
+    name: String,
+    whole: &mut Buffers,
+) -> Result<(), Failure> {
+    let Ok(text) = read_file(rt, name.as_str()) else {
+        return Err(Failure::CannotRead(name));
+    };
+    if text.len() > MOST {
+        return Err(Failure::TooLong);
     }
-    let done = io::write_all(file, text);
-    let closed = libc::close(file);
-    if !done || closed < 0 {
-        return cannot(b"cannot write ", name);
-    }
-    true
+    let loaded = load::load(&text, BASE, &mut whole.memory, &mut whole.marks);
+    accept(loaded.refusal)
 }
 
-// Writes the canonical text of a window to a file. If that cannot be done, it prints why and answers false.
-fn write_window(name: &[u8], memory: &[u8], marks: &[u8]) -> bool {
-    let mut out = [0u8; ROOM];
+// Writes a text to a file, which is overwritten.
+fn write_file<R: Files>(rt: &R, name: String, text: &[u8]) -> Result<(), Failure> {
+    if fs::write(rt, name.as_str(), text).is_err() {
+        return Err(Failure::CannotWrite(name));
+    }
+    Ok(())
+}
+
+// Writes the canonical text of a window to a file.
+fn write_window<R: Files + AllocGlobal>(
+    rt: &R,
+    name: String,
+    whole: &Buffers,
+) -> Result<(), Failure> {
+    let mut text = vec![in rt.alloc(); 0u8; ROOM]?;
     let entry = Entry::Present(0);
-    let written = srec_write::write(BASE, memory, marks, b"", entry, &mut out);
-    let refusal = written.refusal;
-    if !is_accepted(refusal) {
-        return false;
-    }
+    let written = srec_write::write(BASE, &whole.memory, &whole.marks, b"", entry, &mut text);
+    accept(written.refusal)?;
     let length = marks::smaller(written.length, ROOM);
-    write_file(name, &out[..length])
+    write_file(rt, name, &text[..length])
 }
 
-// The name of a chip's file: a dot and a digit behind a name, and zeros.
-fn path_of(name: &[u8], digit: u8) -> [u8; PATH]
-    ensures { 4095 ≡ length result }
+// The name of a chip's file: a dot and the chip's number behind a name.
+fn path_of(alloc: Global, name: &str, number: u8) -> Result<String, AllocError>
+    ensures { IfOk result (λ path. string_bytes path ≡ name.now ++ (codes "." ++ decimal number)) }
 {
-    let n = marks::smaller(name.len(), NAME);
-    let mut path = [0u8; PATH];
-    bytes::copy(&name[..n], &mut path);
-    path[n] = b'.';
-    path[n + 1] = digit;
-    path
+    let mut path = String::with_capacity(alloc, path_length(name))?;
+    write!(path, "{name}.{number}")?;
+    Ok(path)
 }
 
 // How many bytes the name of a chip's file has.
-fn path_length(name: &[u8]) -> usize
+fn path_length(name: &str) -> usize
     ensures { result ≤ 4095 }
 {
     marks::smaller(name.len(), NAME) + 2
 }
 
 // Loads a chip's file. One that is not used has no cells and no file.
-fn load_chip(name: &[u8], digit: u8, memory: &mut [u8], marks: &mut [u8]) -> bool {
-    if memory.len() == 0 {
-        return true;
+fn load_chip<R: Files + AllocGlobal>(
+    rt: &R,
+    name: &str,
+    number: u8,
+    chip: &mut Buffers,
+) -> Result<(), Failure> {
+    if chip.memory.is_empty() {
+        return Ok(());
     }
-    let path = path_of(name, digit);
-    let n = path_length(name);
-    load_file(&path[..n], memory, marks)
+    load_file(rt, path_of(rt.alloc(), name, number)?, chip)
 }
 
 // Writes a chip's file. One that is not used has no cells and no file.
-fn write_chip(name: &[u8], digit: u8, memory: &[u8], marks: &[u8]) -> bool {
-    if memory.len() == 0 {
-        return true;
+fn write_chip<R: Files + AllocGlobal>(
+    rt: &R,
+    name: &str,
+    number: u8,
+    chip: &Buffers,
+) -> Result<(), Failure> {
+    if chip.memory.is_empty() {
+        return Ok(());
     }
-    let path = path_of(name, digit);
-    let n = path_length(name);
-    write_window(&path[..n], memory, marks)
+    write_window(rt, path_of(rt.alloc(), name, number)?, chip)
 }
 
 // The cells of each chip of k. For any other number than two and four they are none: the calls refuse that number.
 fn share_of(k: usize) -> usize
     ensures { result ≤ 32768 }
 {
-    if k == 2 {
-        return CELLS / 2;
+    match k {
+        2 => CELLS / 2,
+        4 => CELLS / 4,
+        _ => 0,
     }
-    if k == 4 {
-        return CELLS / 4;
-    }
-    0
 }
 
 // The cells of the third and fourth chip of k: none of two.
 fn rest_of(k: usize) -> usize
     ensures { result ≤ 32768 }
 {
-    if k == 2 {
-        return 0;
-    }
-    share_of(k)
+    if k == 2 { 0 } else { share_of(k) }
 }
 
 // Writes the files of two chips, the second one only behind the first.
-fn write_pair(
-    to: &[u8],
+fn write_pair<R: Files + AllocGlobal>(
+    rt: &R,
+    to: &str,
     first: u8,
     second: u8,
-    memory0: &[u8],
-    marks0: &[u8],
-    memory1: &[u8],
-    marks1: &[u8],
-) -> bool {
-    if !write_chip(to, first, memory0, marks0) {
-        return false;
-    }
-    write_chip(to, second, memory1, marks1)
+    chip0: &Buffers,
+    chip1: &Buffers,
+) -> Result<(), Failure> {
+    write_chip(rt, to, first, chip0)?;
+    write_chip(rt, to, second, chip1)
 }
 
 // Deals a window over k chips, whose buffers are lent, and writes their files, up to the first that cannot be written.
-fn deal_lent(
+fn deal_lent<R: Files + AllocGlobal>(
+    rt: &R,
     k: usize,
-    to: &[u8],
-    memory: &[u8],
-    marks: &[u8],
-    memory0: &mut [u8],
-    marks0: &mut [u8],
-    memory1: &mut [u8],
-    marks1: &mut [u8],
-    memory2: &mut [u8],
-    marks2: &mut [u8],
-    memory3: &mut [u8],
-    marks3: &mut [u8],
-) {
+    to: &str,
+    whole: &Buffers,
+    chip0: &mut Buffers,
+    chip1: &mut Buffers,
+    chip2: &mut Buffers,
+    chip3: &mut Buffers,
+) -> Result<(), Failure> {
     let refusal = deal::deal(
-        k, BASE, memory, marks, memory0, marks0, memory1, marks1, memory2, marks2, memory3, marks3,
+        k,
+        BASE,
+        &whole.memory,
+        &whole.marks,
+        &mut chip0.memory,
+        &mut chip0.marks,
+        &mut chip1.memory,
+        &mut chip1.marks,
+        &mut chip2.memory,
+        &mut chip2.marks,
+        &mut chip3.memory,
+        &mut chip3.marks,
     );
-    if !is_accepted(refusal) {
-        return;
-    }
-    if write_pair(to, b'0', b'1', memory0, marks0, memory1, marks1) {
-        write_pair(to, b'2', b'3', memory2, marks2, memory3, marks3);
-    }
+    accept(refusal)?;
+    write_pair(rt, to, 0, 1, chip0, chip1)?;
+    write_pair(rt, to, 2, 3, chip2, chip3)
 }
 
-fn deal(k: usize, from: &[u8], to: &[u8]) {
-    let mut memory = [0u8; CELLS];
-    let mut marks = [0u8; CELLS];
-    if !load_file(from, &mut memory, &mut marks) {
-        return;
-    }
-    let share = share_of(k);
-    let rest = rest_of(k);
-    let mut memory0 = [0u8; MOST_SHARE];
-    let mut marks0 = [0u8; MOST_SHARE];
-    let mut memory1 = [0u8; MOST_SHARE];
-    let mut marks1 = [0u8; MOST_SHARE];
-    let mut memory2 = [0u8; MOST_SHARE];
-    let mut marks2 = [0u8; MOST_SHARE];
-    let mut memory3 = [0u8; MOST_SHARE];
-    let mut marks3 = [0u8; MOST_SHARE];
+fn deal<R: Files + AllocGlobal>(rt: &R, k: usize, from: String, to: &str) -> Result<(), Failure> {
+    let alloc = rt.alloc();
+    let mut whole = Buffers::new(alloc, CELLS)?;
+    load_file(rt, from, &mut whole)?;
+    let mut chip0 = Buffers::new(alloc, share_of(k))?;
+    let mut chip1 = Buffers::new(alloc, share_of(k))?;
+    let mut chip2 = Buffers::new(alloc, rest_of(k))?;
+    let mut chip3 = Buffers::new(alloc, rest_of(k))?;
     deal_lent(
-        k,
-        to,
-        &memory,
-        &marks,
-        &mut memory0[..share],
-        &mut marks0[..share],
-        &mut memory1[..share],
-        &mut marks1[..share],
-        &mut memory2[..rest],
-        &mut marks2[..rest],
-        &mut memory3[..rest],
-        &mut marks3[..rest],
-    );
+        rt, k, to, &whole, &mut chip0, &mut chip1, &mut chip2, &mut chip3,
+    )
 }
 
 // Loads the files of two chips, the second one only behind the first.
-fn load_pair(
-    from: &[u8],
+fn load_pair<R: Files + AllocGlobal>(
+    rt: &R,
+    from: &str,
     first: u8,
     second: u8,
-    memory0: &mut [u8],
-    marks0: &mut [u8],
-    memory1: &mut [u8],
-    marks1: &mut [u8],
-) -> bool {
-    if !load_chip(from, first, memory0, marks0) {
-        return false;
-    }
-    load_chip(from, second, memory1, marks1)
+    chip0: &mut Buffers,
+    chip1: &mut Buffers,
+) -> Result<(), Failure> {
+    load_chip(rt, from, first, chip0)?;
+    load_chip(rt, from, second, chip1)
 }
 
 // Collects k chips, whose buffers are lent, and writes the file of the whole.
-fn collect_lent(
+fn collect_lent<R: Files + AllocGlobal>(
+    rt: &R,
     k: usize,
-    to: &[u8],
-    memory0: &[u8],
-    marks0: &[u8],
-    memory1: &[u8],
-    marks1: &[u8],
-    memory2: &[u8],
-    marks2: &[u8],
-    memory3: &[u8],
-    marks3: &[u8],
-) {
-    let mut memory = [0u8; CELLS];
-    let mut marks = [0u8; CELLS];
+    to: String,
+    chip0: &Buffers,
+    chip1: &Buffers,
+    chip2: &Buffers,
+    chip3: &Buffers,
+) -> Result<(), Failure> {
+    let mut whole = Buffers::new(rt.alloc(), CELLS)?;
     let collected = collect::collect(
         k,
         BASE,
-        &mut memory,
-        &mut marks,
-        memory0,
-        marks0,
-        memory1,
-        marks1,
-        memory2,
-        marks2,
-        memory3,
-        marks3,
+        &mut whole.memory,
+        &mut whole.marks,
+        &chip0.memory,
+        &chip0.marks,
+        &chip1.memory,
+        &chip1.marks,
+        &chip2.memory,
+        &chip2.marks,
+        &chip3.memory,
+        &chip3.marks,
     );
-    let refusal = collected.refusal;
-    if !is_accepted(refusal) {
-        return;
-    }
-    write_window(to, &memory, &marks);
+    accept(collected.refusal)?;
+    write_window(rt, to, &whole)
 }
 
 // Loads k chips into buffers that are lent, and collects them. Of a number of chips that collecting refuses none is loaded.
-fn load_and_collect(
+fn load_and_collect<R: Files + AllocGlobal>(
+    rt: &R,
     k: usize,
-    from: &[u8],
-    to: &[u8],
-    memory0: &mut [u8],
-    marks0: &mut [u8],
-    memory1: &mut [u8],
-    marks1: &mut [u8],
-    memory2: &mut [u8],
-    marks2: &mut [u8],
-    memory3: &mut [u8],
-    marks3: &mut [u8],
-) {
-    if !load_pair(from, b'0', b'1', memory0, marks0, memory1, marks1) {
-        return;
-    }
-    if !load_pair(from, b'2', b'3', memory2, marks2, memory3, marks3) {
-        return;
-    }
-    collect_lent(
-        k, to, memory0, marks0, memory1, marks1, memory2, marks2, memory3, marks3,
-    );
+    from: &str,
+    to: String,
+    chip0: &mut Buffers,
+    chip1: &mut Buffers,
+    chip2: &mut Buffers,
+    chip3: &mut Buffers,
+) -> Result<(), Failure> {
+    load_pair(rt, from, 0, 1, chip0, chip1)?;
+    load_pair(rt, from, 2, 3, chip2, chip3)?;
+    collect_lent(rt, k, to, chip0, chip1, chip2, chip3)
 }
 
-fn collect(k: usize, from: &[u8], to: &[u8]) {
-    let share = share_of(k);
-    let rest = rest_of(k);
-    let mut memory0 = [0u8; MOST_SHARE];
-    let mut marks0 = [0u8; MOST_SHARE];
-    let mut memory1 = [0u8; MOST_SHARE];
-    let mut marks1 = [0u8; MOST_SHARE];
-    let mut memory2 = [0u8; MOST_SHARE];
-    let mut marks2 = [0u8; MOST_SHARE];
-    let mut memory3 = [0u8; MOST_SHARE];
-    let mut marks3 = [0u8; MOST_SHARE];
+fn collect<R: Files + AllocGlobal>(
+    rt: &R,
+    k: usize,
+    from: &str,
+    to: String,
+) -> Result<(), Failure> {
+    let alloc = rt.alloc();
+    let mut chip0 = Buffers::new(alloc, share_of(k))?;
+    let mut chip1 = Buffers::new(alloc, share_of(k))?;
+    let mut chip2 = Buffers::new(alloc, rest_of(k))?;
+    let mut chip3 = Buffers::new(alloc, rest_of(k))?;
     load_and_collect(
-        k,
-        from,
-        to,
-        &mut memory0[..share],
-        &mut marks0[..share],
-        &mut memory1[..share],
-        &mut marks1[..share],
-        &mut memory2[..rest],
-        &mut marks2[..rest],
-        &mut memory3[..rest],
-        &mut marks3[..rest],
-    );
+        rt, k, from, to, &mut chip0, &mut chip1, &mut chip2, &mut chip3,
+    )
 }
 
-fn print_usage() {
-    io::write_all(STDOUT_FILENO, b"usage: board deal|collect K IN OUT\n");
+// The number of chips that a digit tells.
+fn chips_in(word: &str) -> Result<usize, Failure> {
+    match word.as_bytes() {
+        [digit @ b'0'..=b'9'] => Ok(usize::from(*digit - b'0')),
+        _ => Err(Failure::Usage),
+    }
 }
 
 // Runs a command of a word, a digit and two names.
-fn run(word: &[u8], digit: u8, from: &[u8], to: &[u8]) {
-    if digit < b'0' || digit > b'9' {
-        print_usage();
-        return;
+fn run<R: Files + AllocGlobal>(
+    rt: &R,
+    word: &str,
+    digit: &str,
+    from: String,
+    to: String,
+) -> Result<(), Failure> {
+    let k = chips_in(digit)?;
+    match word {
+        "deal" => deal(rt, k, from, to.as_str()),
+        "collect" => collect(rt, k, from.as_str(), to),
+        _ => Err(Failure::Usage),
     }
-    let k = (digit - b'0') as usize;
-    if check::same(word, b"deal") {
-        deal(k, from, to);
-        return;
-    }
-    if check::same(word, b"collect") {
-        collect(k, from, to);
-        return;
-    }
-    print_usage();
 }
 
-fn main() {
-    // a word that is missing or too long counts as empty
-    let mut word = [0u8; 7];
-    let mut digit = [0u8; 1];
-    let mut from = [0u8; NAME];
-    let mut to = [0u8; NAME];
-    let a = os::arg(1, &mut word);
-    let b = os::arg(2, &mut digit);
-    let c = os::arg(3, &mut from);
-    let d = os::arg(4, &mut to);
-    if os::arg_count() != 5 || a == 0 || b == 0 || c == 0 || d == 0 {
-        print_usage();
-        return;
+// Is this a name of a file: neither empty nor too long?
+fn is_name(name: &str) -> bool {
+    !name.is_empty() && name.len() <= NAME
+}
+
+// Runs the command that the arguments give.
+fn run_arguments<R: Env + Files + AllocGlobal>(rt: &R) -> Result<(), Failure> {
+    let mut arguments = env::args(rt).map_err(Failure::of_arguments)?;
+    let _program = arguments.next();
+    let (Some(word), Some(digit), Some(from), Some(to), None) = (
+        arguments.next(),
+        arguments.next(),
+        arguments.next(),
+        arguments.next(),
+        arguments.next(),
+    ) else {
+        return Err(Failure::Usage);
+    };
+    if !is_name(from.as_str()) || !is_name(to.as_str()) {
+        return Err(Failure::Usage);
     }
-    run(&word[..a], digit[0], &from[..c], &to[..d]);
+    run(rt, word.as_str(), digit.as_str(), from, to)
+}
+
+fn main(rt: HostRuntime) -> io::Result<()> {
+    match run_arguments(&rt) {
+        Ok(()) => Ok(()),
+        Err(failure) => failure.print(&mut io::writer(&rt)),
+    }
 }

@@ -2,13 +2,15 @@
 ghost use Rattle.calls.specs.Rooms.{Room};
 
 use session::Session;
+use std::io;
+use std::io::Write;
 
 // The cells and the marks that a case can lend.
 pub const ROOM: usize = 1024;
 
 // What a case goes on with from one word to the next: the state, the one that was kept, the window that is lent, and how much of the
 // text was fed.
-#[derive(Drop)]
+#[derive(Clone, Copy)]
 pub struct Bench {
     pub session: Session,
     pub kept: Session,
@@ -19,15 +21,19 @@ pub struct Bench {
 }
 
 // The state, and all that is lent.
-pub fn print_bench(bench: Bench, memory: &[u8], marks: &[u8])
+pub fn print_bench<W: Write>(
+    out: &mut W,
+    bench: Bench,
+    memory: &[u8],
+    marks: &[u8],
+) -> io::Result<()>
     requires { Room memory.now marks.now }
 {
-    let session = bench.session;
     let cells = marks::smaller(bench.cells, ROOM);
     let lent = marks::smaller(bench.marks, ROOM);
-    crate::state::print_state(session);
-    printing::print_bytes(b"memory ", &memory[..cells]);
-    printing::print_bytes(b"marks ", &marks[..lent]);
+    crate::state::print_state(out, bench.session)?;
+    printing::print_bytes(out, "memory ", &memory[..cells])?;
+    printing::print_bytes(out, "marks ", &marks[..lent])
 }
 
 // Begins a load in the window that is lent, in the form of the one before.
@@ -36,31 +42,27 @@ pub fn begin(bench: Bench, memory: &[u8], marks: &mut [u8]) -> Bench
 {
     let cells = marks::smaller(bench.cells, ROOM);
     let lent = marks::smaller(bench.marks, ROOM);
-    let mut b = bench;
-    let before = bench.session;
-    let form = before.form;
-    let session = begin::begin_as(form, bench.base, &memory[..cells], &mut marks[..lent]);
-    b.session = session;
-    b
+    let form = bench.session.form;
+    let mut next = bench;
+    next.session = begin::begin_as(form, bench.base, &memory[..cells], &mut marks[..lent]);
+    next
 }
 
 // Feeds a part.
 fn feed_part(bench: Bench, part: &[u8], memory: &mut [u8], marks: &mut [u8]) -> Bench
     requires { Room memory.old marks.old }
 {
-    let session = bench.session;
     let cells = marks::smaller(bench.cells, ROOM);
     let lent = marks::smaller(bench.marks, ROOM);
-    let mut b = bench;
-    let next = feed::feed(
-        session,
+    let mut next = bench;
+    next.session = feed::feed(
+        bench.session,
         part,
         bench.base,
         &mut memory[..cells],
         &mut marks[..lent],
     );
-    b.session = next;
-    b
+    next
 }
 
 // Feeds so many of the characters that are left.
@@ -69,9 +71,9 @@ pub fn feed_next(bench: Bench, n: usize, text: &[u8], memory: &mut [u8], marks: 
 {
     let at = marks::smaller(bench.at, text.len());
     let to = at + marks::smaller(n, text.len() - at);
-    let mut b = feed_part(bench, &text[at..to], memory, marks);
-    b.at = to;
-    b
+    let mut next = feed_part(bench, &text[at..to], memory, marks);
+    next.at = to;
+    next
 }
 
 // Feeds all characters that are left in parts of so many. Parts of none would never end.
@@ -87,56 +89,51 @@ pub fn feed_rest(
     if size == 0 {
         return bench;
     }
-    let mut b = bench;
-    let mut at = marks::smaller(bench.at, text.len());
-    while at < text.len() {
-        let to = at + marks::smaller(size, text.len() - at);
-        b = feed_part(b, &text[at..to], memory, marks);
-        at = to;
+    let mut next = bench;
+    let at = marks::smaller(bench.at, text.len());
+    for part in text[at..].chunks(size) {
+        next = feed_part(next, part, memory, marks);
     }
-    b.at = at;
-    b
+    next.at = text.len();
+    next
 }
 
 // Ends a load and prints what it gives.
-pub fn end(bench: Bench, memory: &mut [u8], marks: &mut [u8]) -> Bench
+pub fn end<W: Write>(
+    out: &mut W,
+    bench: Bench,
+    memory: &mut [u8],
+    marks: &mut [u8],
+) -> io::Result<Bench>
     requires { Room memory.old marks.old }
 {
-    let session = bench.session;
     let cells = marks::smaller(bench.cells, ROOM);
     let lent = marks::smaller(bench.marks, ROOM);
-    let mut b = bench;
     let ended = end::end(
-        session,
+        bench.session,
         bench.base,
         &mut memory[..cells],
         &mut marks[..lent],
     );
-    let loaded = ended.loaded;
-    let next = ended.session;
-    printing::print_answer(loaded);
-    b.session = next;
-    print_bench(b, memory, marks);
-    b
+    let mut next = bench;
+    next.session = ended.session;
+    printing::print_answer(out, ended.loaded)?;
+    print_bench(out, next, memory, marks)?;
+    Ok(next)
 }
 
 // What a word that makes no call changes for those behind it.
 pub fn change(bench: Bench, letter: u8, first: usize, second: usize) -> Bench {
-    let mut b = bench;
-    let session = b.session;
-    let kept = b.kept;
+    let mut next = bench;
     match letter {
-        b'a' => b.base = (first % 4294967296) as u32,
+        b'a' => next.base = (first % 4294967296) as u32,
         b'l' => {
-            b.cells = first;
-            b.marks = second;
+            next.cells = first;
+            next.marks = second;
         }
-        b'k' => b.kept = session,
-        b'u' => b.session = kept,
-        _ => {
-            let next = crate::state::overwrite(session, letter, first);
-            b.session = next;
-        }
+        b'k' => next.kept = bench.session,
+        b'u' => next.session = bench.kept,
+        _ => next.session = crate::state::overwrite(bench.session, letter, first),
     }
-    b
+    next
 }

@@ -15,16 +15,19 @@
 //
 // An end prints the answer as `vectors` does. Behind it, and for `p`, the state is printed, and all cells and marks that are lent. Of
 // a refused state only the refusal counts.
+#![tactic(auto)]
+
 mod bench;
 mod state;
 
-ghost use Rattle.std.specs.Prelude.{◌≡◌, ◌≤◌, ◌<◌, length};
+ghost use Rattle.std.specs.Prelude.{◌≡◌, ◌≤◌, ◌<◌, length, IfOk};
 ghost use Rattle.hex_digits.specs.Tables.{digit_table};
 ghost use Rattle.calls.specs.Rooms.{Room};
 
 use bench::{Bench, ROOM};
-use libc::{STDIN_FILENO, STDOUT_FILENO};
 use marks::Form;
+use std::io;
+use std::io::{BufWriter, Write};
 
 // A number that has one digit more still fits 64 bits.
 const LIMIT: usize = 1000000000000000000;
@@ -32,21 +35,16 @@ const LIMIT: usize = 1000000000000000000;
 // The number that decimal digits stand for.
 fn number_in(chars: &[u8]) -> usize {
     let mut n: usize = 0;
-    let mut i: usize = 0;
-    while i < chars.len() {
-        let digit = chars[i] % 16;
-        n = n % LIMIT * 10 + digit as usize;
-        i += 1;
+    for c in chars {
+        n = n % LIMIT * 10 + (*c % 16) as usize;
     }
     n
 }
 
 // Cells that were used before: E0 to EF in turn.
 fn fill_cells(cells: &mut [u8]) {
-    let mut i: usize = 0;
-    while i < cells.len() {
-        cells[i] = (224 + i % 16) as u8;
-        i += 1;
+    for (i, cell) in cells.iter_mut().enumerate() {
+        *cell = (224 + i % 16) as u8;
     }
 }
 
@@ -57,7 +55,8 @@ fn set_mark(marks: &mut [u8], i: usize, n: usize) {
 }
 
 // Makes the call of a word.
-fn call(
+fn call<W: Write>(
+    out: &mut W,
     bench: Bench,
     letter: u8,
     first: usize,
@@ -65,58 +64,64 @@ fn call(
     text: &[u8],
     memory: &mut [u8],
     marks: &mut [u8],
-) -> Bench
+) -> io::Result<Bench>
     requires { Room memory.old marks.old }
 {
     match letter {
-        b'b' => return bench::begin(bench, memory, marks),
-        b'f' => return bench::feed_next(bench, first, text, memory, marks),
-        b'r' => return bench::feed_rest(bench, first, text, memory, marks),
-        b'e' => return bench::end(bench, memory, marks),
-        b'p' => {
-            bench::print_bench(bench, memory, marks);
-            return bench;
-        }
-        b'm' => {
-            set_mark(marks, first, second);
-            return bench;
-        }
-        _ => return bench::change(bench, letter, first, second),
+        b'b' => return Ok(bench::begin(bench, memory, marks)),
+        b'f' => return Ok(bench::feed_next(bench, first, text, memory, marks)),
+        b'r' => return Ok(bench::feed_rest(bench, first, text, memory, marks)),
+        b'e' => return bench::end(out, bench, memory, marks),
+        b'p' => bench::print_bench(out, bench, memory, marks)?,
+        b'm' => set_mark(marks, first, second),
+        _ => return Ok(bench::change(bench, letter, first, second)),
     }
+    Ok(bench)
 }
 
 // Runs one word: a letter, and up to two numbers with a colon between them.
-fn run_word(bench: Bench, word: &[u8], text: &[u8], memory: &mut [u8], marks: &mut [u8]) -> Bench
+fn run_word<W: Write>(
+    out: &mut W,
+    bench: Bench,
+    word: &[u8],
+    text: &[u8],
+    memory: &mut [u8],
+    marks: &mut [u8],
+) -> io::Result<Bench>
     requires { Room memory.old marks.old }
 {
-    if word.len() == 0 {
-        return bench;
+    if word.is_empty() {
+        return Ok(bench);
     }
     let numbers = &word[1..];
     let colon = printing::count_before(b':', numbers);
     let behind = marks::smaller(colon + 1, numbers.len());
     let first = number_in(&numbers[..colon]);
     let second = number_in(&numbers[behind..]);
-    call(bench, word[0], first, second, text, memory, marks)
+    call(out, bench, word[0], first, second, text, memory, marks)
 }
 
 // Runs the words of a case.
-fn run_words(bench: Bench, words: &[u8], text: &[u8], memory: &mut [u8], marks: &mut [u8])
+fn run_words<W: Write>(
+    out: &mut W,
+    bench: Bench,
+    words: &[u8],
+    text: &[u8],
+    memory: &mut [u8],
+    marks: &mut [u8],
+) -> io::Result<()>
     requires { Room memory.old marks.old }
 {
-    let mut b = bench;
-    let mut at: usize = 0;
-    while at < words.len() {
-        let end = at + printing::count_before(b' ', &words[at..]);
-        // behind the space
-        let next = end + marks::smaller(1, words.len() - end);
-        b = run_word(b, &words[at..end], text, memory, marks);
-        at = next;
+    let mut now = bench;
+    for word in words.split(|c| *c == b' ') {
+        now = run_word(out, now, word, text, memory, marks)?;
     }
+    Ok(())
 }
 
 // Begins a load in buffers that were used before, and runs the words.
-fn run_lent(
+fn run_lent<W: Write>(
+    out: &mut W,
     form: Form,
     base: u32,
     cells: usize,
@@ -124,8 +129,9 @@ fn run_lent(
     text: &[u8],
     memory: &mut [u8],
     marks: &mut [u8],
-)
-    requires { (cells ≤ 1024) × Room memory.old marks.old }
+) -> io::Result<()>
+    requires cells { cells ≤ 1024 }
+    requires room { Room memory.old marks.old }
 {
     fill_cells(memory);
     let n = marks::smaller(marks::bytes_for(form, cells), cells);
@@ -138,7 +144,7 @@ fn run_lent(
         marks: n,
         at: 0,
     };
-    run_words(bench, words, text, memory, marks);
+    run_words(out, bench, words, text, memory, marks)
 }
 
 // The form of marks that a heading tells by the character before the name.
@@ -150,72 +156,90 @@ fn form_of(sign: u8) -> Form {
 }
 
 // Runs the words of a case in the window that its heading gives.
-fn run_window(table: &[u32; 256], heading: &[u8], words: &[u8], text: &[u8])
-    requires { (table.now ≡ digit_table) × (19 ≤ length heading.now) }
+fn run_window<W: Write>(
+    out: &mut W,
+    table: &[u32; 256],
+    heading: &[u8],
+    words: &[u8],
+    text: &[u8],
+) -> io::Result<()>
+    requires table { table.now ≡ digit_table }
+    requires heading { 19 ≤ length heading.now }
 {
     let base = hex_read::number_of(table, &heading[1..9]);
     let size = hex_read::number_of(table, &heading[10..18]) as usize;
+    let form = form_of(heading[18]);
     let cells = marks::smaller(size, ROOM);
     let mut memory = [0u8; ROOM];
     // marks that were used before
     let mut marks = [7u8; ROOM];
-    run_lent(
-        form_of(heading[18]),
-        base,
-        cells,
-        words,
-        text,
-        &mut memory,
-        &mut marks,
-    );
+    run_lent(out, form, base, cells, words, text, &mut memory, &mut marks)
 }
 
 // Runs the first of some cases, whose heading ends at a place, and returns how many characters it has.
-fn run_lines(table: &[u32; 256], cases: &[u8], end: usize) -> usize
-    requires { (table.now ≡ digit_table) × (19 ≤ end) × (end < length cases.now) }
-    ensures { (0 < result) × (result ≤ length cases.now) }
+fn run_lines<W: Write>(
+    out: &mut W,
+    table: &[u32; 256],
+    cases: &[u8],
+    end: usize,
+) -> io::Result<usize>
+    requires table { table.now ≡ digit_table }
+    requires heading { 19 ≤ end }
+    requires within { end < length cases.now }
+    ensures some { IfOk result (λ n. 0 < n) }
+    ensures within { IfOk result (λ n. n ≤ length cases.now) }
 {
     let words = end + 1;
     let last = words + printing::count_before(b'\n', &cases[words..]);
     if last == cases.len() {
-        io::write_all(STDOUT_FILENO, b"no text\n");
-        return last;
+        writeln!(out, "no text")?;
+        return Ok(last);
     }
     let from = last + 1;
     let to = from + printing::count_before(b'@', &cases[from..]);
-    io::write_all(STDOUT_FILENO, &cases[..words]);
-    run_window(table, &cases[..end], &cases[words..last], &cases[from..to]);
-    to
+    out.write_all(&cases[..words])?;
+    run_window(
+        out,
+        table,
+        &cases[..end],
+        &cases[words..last],
+        &cases[from..to],
+    )?;
+    Ok(to)
 }
 
 // Runs the first of some cases and returns how many characters it has.
-fn run_case(table: &[u32; 256], cases: &[u8]) -> usize
-    requires { (table.now ≡ digit_table) × (0 < length cases.now) }
-    ensures { (0 < result) × (result ≤ length cases.now) }
+fn run_case<W: Write>(out: &mut W, table: &[u32; 256], cases: &[u8]) -> io::Result<usize>
+    requires table { table.now ≡ digit_table }
+    requires some { 0 < length cases.now }
+    ensures some { IfOk result (λ n. 0 < n) }
+    ensures within { IfOk result (λ n. n ≤ length cases.now) }
 {
     let end = printing::count_before(b'\n', cases);
     if end < 19 {
-        io::write_all(STDOUT_FILENO, b"bad heading\n");
-        return cases.len();
+        writeln!(out, "bad heading")?;
+        return Ok(cases.len());
     }
     if end == cases.len() {
-        io::write_all(STDOUT_FILENO, b"no words\n");
-        return end;
+        writeln!(out, "no words")?;
+        return Ok(end);
     }
-    run_lines(table, cases, end)
+    run_lines(out, table, cases, end)
 }
 
 // Runs all cases.
-fn run_cases(cases: &[u8]) {
+fn run_cases<W: Write>(out: &mut W, cases: &[u8]) -> io::Result<()> {
     let table = hex_read::digit_table();
     let mut at: usize = 0;
     while at < cases.len() {
-        at += run_case(&table, &cases[at..]);
+        at += run_case(out, &table, &cases[at..])?;
     }
+    Ok(())
 }
 
-fn main() {
-    let mut cases = io::large_buffer();
-    let n = io::read_full(STDIN_FILENO, &mut cases);
-    run_cases(&cases[..n]);
+fn main(rt: HostRuntime) -> io::Result<()> {
+    let cases = printing::read_cases(&rt)?;
+    let mut out = BufWriter::new(rt.alloc(), io::writer(&rt))?;
+    run_cases(&mut out, &cases)?;
+    out.flush()
 }

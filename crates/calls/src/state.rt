@@ -1,77 +1,68 @@
 // The state of a load: how it is printed, and overwritten.
-use libc::STDOUT_FILENO;
 use session::Session;
+use std::io;
+use std::io::Write;
 use window::Entry;
 
 // A word, and a number behind it.
-fn print_number(word: &[u8], n: usize) {
-    io::write_all(STDOUT_FILENO, word);
-    io::print_decimal(STDOUT_FILENO, n as u64);
+fn print_number<W: Write>(out: &mut W, word: &str, n: usize) -> io::Result<()> {
+    write!(out, "{word} {n}")
 }
 
 // The entry of a load whose terminator was read.
-fn print_end(ended: bool, entry: Entry) {
-    io::write_all(STDOUT_FILENO, b" entry ");
+fn print_end<W: Write>(out: &mut W, ended: bool, entry: Entry) -> io::Result<()> {
+    write!(out, " entry ")?;
     if ended {
-        printing::print_entry(entry);
-        return;
+        return printing::print_entry(out, entry);
     }
-    printing::print_entry(Entry::Absent);
+    printing::print_entry(out, Entry::Absent)
 }
 
 // Every number of a state, or its refusal.
-pub fn print_state(session: Session) {
-    io::write_all(STDOUT_FILENO, b"state ");
-    let refusal = session.refusal;
-    if refusal.reason != 0 {
-        io::write_all(STDOUT_FILENO, b"refused ");
-        printing::print_refusal(refusal);
-        io::write_all(STDOUT_FILENO, b"\n");
-        return;
+pub fn print_state<W: Write>(out: &mut W, session: Session) -> io::Result<()> {
+    write!(out, "state ")?;
+    if session.refusal.reason != 0 {
+        write!(out, "refused ")?;
+        printing::print_refusal(out, session.refusal)?;
+        return writeln!(out);
     }
     let tally = session.tally;
     let state = tally.state;
-    let entry = tally.entry;
-    print_number(b"size ", session.size);
-    print_number(b" total ", session.total);
-    print_number(b" place ", session.place);
-    print_number(b" held ", session.held);
-    print_number(b" number ", state.number);
-    print_number(b" records ", state.records);
-    print_number(b" cells ", state.cells);
-    print_number(b" head ", tally.head);
-    print_end(tally.ended, entry);
-    io::write_all(STDOUT_FILENO, b"\n");
+    print_number(out, "size", session.size)?;
+    print_number(out, " total", session.total)?;
+    print_number(out, " place", session.place)?;
+    print_number(out, " held", session.held)?;
+    print_number(out, " number", state.number)?;
+    print_number(out, " records", state.records)?;
+    print_number(out, " cells", state.cells)?;
+    print_number(out, " head", tally.head)?;
+    print_end(out, tally.ended, tally.entry)?;
+    writeln!(out)
 }
 
 // The state with one of the numbers that its records gave overwritten.
 fn overwrite_tally(session: Session, letter: u8, n: usize) -> Session {
-    let mut s = session;
-    let mut tally = s.tally;
-    let mut state = tally.state;
+    let mut next = session;
     match letter {
-        b'N' => state.number = n,
-        b'R' => state.records = n,
-        b'C' => state.cells = n,
-        b'L' => tally.head = n,
+        b'N' => next.tally.state.number = n,
+        b'R' => next.tally.state.records = n,
+        b'C' => next.tally.state.cells = n,
+        b'L' => next.tally.head = n,
         _ => {}
     }
-    tally.state = state;
-    s.tally = tally;
-    s
+    next
 }
 
 // The state with one of its own numbers overwritten.
 pub fn overwrite(session: Session, letter: u8, n: usize) -> Session {
-    let mut s = session;
-    let refusal = window::refuse((n % 4294967296) as u32, 0, 0);
+    let mut next = session;
     match letter {
-        b'S' => s.size = n,
-        b'T' => s.total = n,
-        b'P' => s.place = n,
-        b'H' => s.held = n,
-        b'X' => s.refusal = refusal,
+        b'S' => next.size = n,
+        b'T' => next.total = n,
+        b'P' => next.place = n,
+        b'H' => next.held = n,
+        b'X' => next.refusal = window::refuse((n % 4294967296) as u32, 0, 0),
         _ => return overwrite_tally(session, letter, n),
     }
-    s
+    next
 }

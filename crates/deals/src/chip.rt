@@ -5,7 +5,7 @@ ghost use Rattle.hex_digits.specs.Tables.{digit_table};
 // A memory or marks have at most so many bytes.
 pub const ROOM: usize = 200;
 
-#[derive(Drop)]
+#[derive(Clone, Copy)]
 pub struct Chip {
     pub memory: [u8; ROOM],
     pub cells: usize,
@@ -30,7 +30,7 @@ pub fn first<'a>(bytes: &'a [u8], n: usize) -> &'a [u8] {
 }
 
 // The chip with what a call left in its buffers, whose lengths it keeps.
-pub fn left(chip: Chip, memory: [u8; ROOM], marks: [u8; ROOM]) -> Chip {
+pub fn left(chip: &Chip, memory: [u8; ROOM], marks: [u8; ROOM]) -> Chip {
     Chip {
         memory,
         cells: chip.cells,
@@ -44,9 +44,7 @@ pub fn with_memory(table: &[u32; 256], chip: Chip, digits: &[u8]) -> Chip
     requires { table.now ≡ digit_table }
 {
     let mut next = chip;
-    let mut memory = chip.memory;
-    next.cells = printing::bytes_in(table, digits, &mut memory);
-    next.memory = memory;
+    next.cells = printing::bytes_in(table, digits, &mut next.memory);
     next
 }
 
@@ -55,8 +53,6 @@ pub fn with_marks(table: &[u32; 256], chip: Chip, digits: &[u8]) -> Chip
     requires { table.now ≡ digit_table }
 {
     let mut next = chip;
-    let mut marks = chip.marks;
-    next.marked = printing::bytes_in(table, digits, &mut marks);
-    next.marks = marks;
+    next.marked = printing::bytes_in(table, digits, &mut next.marks);
     next
 }

@@ -10,18 +10,21 @@
 //
 // A deal prints its refusal and the buffers of every chip; a collect its answer and the buffers of the whole. Both leave the buffers for
 // the next line.
+#![tactic(auto)]
+
 mod chip;
 
-ghost use Rattle.std.specs.Prelude.{◌≡◌, ◌≤◌, ◌<◌, length};
+ghost use Rattle.std.specs.Prelude.{◌≡◌, ◌≤◌, ◌<◌, length, IfOk};
 ghost use Rattle.hex_digits.specs.Tables.{digit_table};
 
 use chip::Chip;
 use chips::Collected;
-use libc::{STDIN_FILENO, STDOUT_FILENO};
+use std::io;
+use std::io::{BufWriter, Write};
 use window::Refusal;
 
 // What a case goes on with from one line to the next.
-#[derive(Drop)]
+#[derive(Clone, Copy)]
 struct Case {
     at: u32,
     whole: Chip,
@@ -32,50 +35,40 @@ struct Case {
 }
 
 // The buffers of a chip, each on a line that begins with the word.
-fn print_chip(word: &[u8], chip: Chip) {
-    let memory = chip.memory;
-    let marks = chip.marks;
-    io::write_all(STDOUT_FILENO, word);
-    printing::print_bytes(b"memory ", chip::first(&memory, chip.cells));
-    io::write_all(STDOUT_FILENO, word);
-    printing::print_bytes(b"marks ", chip::first(&marks, chip.marked));
+fn print_chip<W: Write>(out: &mut W, word: &str, chip: &Chip) -> io::Result<()> {
+    write!(out, "{word}")?;
+    printing::print_bytes(out, "memory ", chip::first(&chip.memory, chip.cells))?;
+    write!(out, "{word}")?;
+    printing::print_bytes(out, "marks ", chip::first(&chip.marks, chip.marked))
 }
 
 // The buffers of every chip of a case.
-fn print_chips(case: Case) {
-    let chip0 = case.chip0;
-    let chip1 = case.chip1;
-    let chip2 = case.chip2;
-    let chip3 = case.chip3;
-    print_chip(b"chip 0 ", chip0);
-    print_chip(b"chip 1 ", chip1);
-    print_chip(b"chip 2 ", chip2);
-    print_chip(b"chip 3 ", chip3);
+fn print_chips<W: Write>(out: &mut W, case: &Case) -> io::Result<()> {
+    print_chip(out, "chip 0 ", &case.chip0)?;
+    print_chip(out, "chip 1 ", &case.chip1)?;
+    print_chip(out, "chip 2 ", &case.chip2)?;
+    print_chip(out, "chip 3 ", &case.chip3)
 }
 
-fn print_dealt(refusal: Refusal) {
-    io::write_all(STDOUT_FILENO, b"deal ");
-    printing::print_refusal(refusal);
-    io::write_all(STDOUT_FILENO, b"\n");
+fn print_dealt<W: Write>(out: &mut W, refusal: Refusal) -> io::Result<()> {
+    write!(out, "deal ")?;
+    printing::print_refusal(out, refusal)?;
+    writeln!(out)
 }
 
-fn print_collected(collected: Collected) {
-    io::write_all(STDOUT_FILENO, b"collect ");
-    let refusal = collected.refusal;
-    printing::print_refusal(refusal);
-    io::write_all(STDOUT_FILENO, b" entry ");
-    let entry = collected.entry;
-    printing::print_entry(entry);
-    io::write_all(STDOUT_FILENO, b" header ");
-    let header = collected.header;
-    let bytes = header.bytes;
-    printing::print_header(header.len, &bytes);
-    io::write_all(STDOUT_FILENO, b"\n");
+fn print_collected<W: Write>(out: &mut W, collected: Collected) -> io::Result<()> {
+    write!(out, "collect ")?;
+    printing::print_refusal(out, collected.refusal)?;
+    write!(out, " entry ")?;
+    printing::print_entry(out, collected.entry)?;
+    write!(out, " header ")?;
+    printing::print_header(out, collected.header.len, &collected.header.bytes)?;
+    writeln!(out)
 }
 
 // Deals the whole of a case over k chips, whose buffers are lent.
 fn deal_lent(
-    case: Case,
+    case: &Case,
     k: usize,
     memory0: &mut [u8],
     marks0: &mut [u8],
@@ -86,9 +79,7 @@ fn deal_lent(
     memory3: &mut [u8],
     marks3: &mut [u8],
 ) -> Refusal {
-    let whole = case.whole;
-    let memory = whole.memory;
-    let marks = whole.marks;
+    let whole = &case.whole;
     let cells0 = marks::smaller(case.chip0.cells, memory0.len());
     let marked0 = marks::smaller(case.chip0.marked, marks0.len());
     let cells1 = marks::smaller(case.chip1.cells, memory1.len());
@@ -100,8 +91,8 @@ fn deal_lent(
     deal::deal(
         k,
         case.at,
-        chip::first(&memory, whole.cells),
-        chip::first(&marks, whole.marked),
+        chip::first(&whole.memory, whole.cells),
+        chip::first(&whole.marks, whole.marked),
         &mut memory0[..cells0],
         &mut marks0[..marked0],
         &mut memory1[..cells1],
@@ -114,21 +105,17 @@ fn deal_lent(
 }
 
 // The case after a deal over k chips, which is printed.
-fn deal(case: Case, k: usize) -> Case {
-    let chip0 = case.chip0;
-    let chip1 = case.chip1;
-    let chip2 = case.chip2;
-    let chip3 = case.chip3;
-    let mut memory0 = chip0.memory;
-    let mut marks0 = chip0.marks;
-    let mut memory1 = chip1.memory;
-    let mut marks1 = chip1.marks;
-    let mut memory2 = chip2.memory;
-    let mut marks2 = chip2.marks;
-    let mut memory3 = chip3.memory;
-    let mut marks3 = chip3.marks;
+fn deal<W: Write>(out: &mut W, case: Case, k: usize) -> io::Result<Case> {
+    let mut memory0 = case.chip0.memory;
+    let mut marks0 = case.chip0.marks;
+    let mut memory1 = case.chip1.memory;
+    let mut marks1 = case.chip1.marks;
+    let mut memory2 = case.chip2.memory;
+    let mut marks2 = case.chip2.marks;
+    let mut memory3 = case.chip3.memory;
+    let mut marks3 = case.chip3.marks;
     let refusal = deal_lent(
-        case,
+        &case,
         k,
         &mut memory0,
         &mut marks0,
@@ -139,60 +126,46 @@ fn deal(case: Case, k: usize) -> Case {
         &mut memory3,
         &mut marks3,
     );
-    print_dealt(refusal);
+    print_dealt(out, refusal)?;
     let mut next = case;
-    next.chip0 = chip::left(chip0, memory0, marks0);
-    next.chip1 = chip::left(chip1, memory1, marks1);
-    next.chip2 = chip::left(chip2, memory2, marks2);
-    next.chip3 = chip::left(chip3, memory3, marks3);
-    print_chips(next);
-    next
+    next.chip0 = chip::left(&case.chip0, memory0, marks0);
+    next.chip1 = chip::left(&case.chip1, memory1, marks1);
+    next.chip2 = chip::left(&case.chip2, memory2, marks2);
+    next.chip3 = chip::left(&case.chip3, memory3, marks3);
+    print_chips(out, &next)?;
+    Ok(next)
 }
 
 // Collects k chips of a case into the whole, whose buffers are lent.
-fn collect_lent(case: Case, k: usize, memory: &mut [u8], marks: &mut [u8]) -> Collected {
+fn collect_lent(case: &Case, k: usize, memory: &mut [u8], marks: &mut [u8]) -> Collected {
     let cells = marks::smaller(case.whole.cells, memory.len());
     let marked = marks::smaller(case.whole.marked, marks.len());
-    let chip0 = case.chip0;
-    let chip1 = case.chip1;
-    let chip2 = case.chip2;
-    let chip3 = case.chip3;
-    let memory0 = chip0.memory;
-    let marks0 = chip0.marks;
-    let memory1 = chip1.memory;
-    let marks1 = chip1.marks;
-    let memory2 = chip2.memory;
-    let marks2 = chip2.marks;
-    let memory3 = chip3.memory;
-    let marks3 = chip3.marks;
     collect::collect(
         k,
         case.at,
         &mut memory[..cells],
         &mut marks[..marked],
-        chip::first(&memory0, chip0.cells),
-        chip::first(&marks0, chip0.marked),
-        chip::first(&memory1, chip1.cells),
-        chip::first(&marks1, chip1.marked),
-        chip::first(&memory2, chip2.cells),
-        chip::first(&marks2, chip2.marked),
-        chip::first(&memory3, chip3.cells),
-        chip::first(&marks3, chip3.marked),
+        chip::first(&case.chip0.memory, case.chip0.cells),
+        chip::first(&case.chip0.marks, case.chip0.marked),
+        chip::first(&case.chip1.memory, case.chip1.cells),
+        chip::first(&case.chip1.marks, case.chip1.marked),
+        chip::first(&case.chip2.memory, case.chip2.cells),
+        chip::first(&case.chip2.marks, case.chip2.marked),
+        chip::first(&case.chip3.memory, case.chip3.cells),
+        chip::first(&case.chip3.marks, case.chip3.marked),
     )
 }
 
 // The case after k chips are collected, which is printed.
-fn collect(case: Case, k: usize) -> Case {
-    let whole = case.whole;
-    let mut memory = whole.memory;
-    let mut marks = whole.marks;
-    let collected = collect_lent(case, k, &mut memory, &mut marks);
-    print_collected(collected);
-    let left = chip::left(whole, memory, marks);
-    print_chip(b"", left);
+fn collect<W: Write>(out: &mut W, case: Case, k: usize) -> io::Result<Case> {
+    let mut memory = case.whole.memory;
+    let mut marks = case.whole.marks;
+    let collected = collect_lent(&case, k, &mut memory, &mut marks);
+    print_collected(out, collected)?;
     let mut next = case;
-    next.whole = left;
-    next
+    next.whole = chip::left(&case.whole, memory, marks);
+    print_chip(out, "", &next.whole)?;
+    Ok(next)
 }
 
 // The number that eight digits give; 0 for fewer.
@@ -206,55 +179,47 @@ fn number_in(table: &[u32; 256], digits: &[u8]) -> usize
 }
 
 // Runs a line: a letter, and the digits behind it.
-fn run_line(table: &[u32; 256], case: Case, line: &[u8]) -> Case
+fn run_line<W: Write>(out: &mut W, table: &[u32; 256], case: Case, line: &[u8]) -> io::Result<Case>
     requires { table.now ≡ digit_table }
 {
-    if line.len() == 0 {
-        return case;
+    if line.is_empty() {
+        return Ok(case);
     }
     let digits = &line[1..];
-    let whole = case.whole;
-    let chip0 = case.chip0;
-    let chip1 = case.chip1;
-    let chip2 = case.chip2;
-    let chip3 = case.chip3;
     let mut next = case;
     match line[0] {
-        b'd' => next = deal(case, number_in(table, digits)),
-        b'c' => next = collect(case, number_in(table, digits)),
-        b'm' => next.whole = chip::with_memory(table, whole, digits),
-        b'k' => next.whole = chip::with_marks(table, whole, digits),
-        b'p' => next.chip0 = chip::with_memory(table, chip0, digits),
-        b'q' => next.chip1 = chip::with_memory(table, chip1, digits),
-        b'r' => next.chip2 = chip::with_memory(table, chip2, digits),
-        b's' => next.chip3 = chip::with_memory(table, chip3, digits),
-        b'P' => next.chip0 = chip::with_marks(table, chip0, digits),
-        b'Q' => next.chip1 = chip::with_marks(table, chip1, digits),
-        b'R' => next.chip2 = chip::with_marks(table, chip2, digits),
-        b'S' => next.chip3 = chip::with_marks(table, chip3, digits),
+        b'd' => return deal(out, case, number_in(table, digits)),
+        b'c' => return collect(out, case, number_in(table, digits)),
+        b'm' => next.whole = chip::with_memory(table, case.whole, digits),
+        b'k' => next.whole = chip::with_marks(table, case.whole, digits),
+        b'p' => next.chip0 = chip::with_memory(table, case.chip0, digits),
+        b'q' => next.chip1 = chip::with_memory(table, case.chip1, digits),
+        b'r' => next.chip2 = chip::with_memory(table, case.chip2, digits),
+        b's' => next.chip3 = chip::with_memory(table, case.chip3, digits),
+        b'P' => next.chip0 = chip::with_marks(table, case.chip0, digits),
+        b'Q' => next.chip1 = chip::with_marks(table, case.chip1, digits),
+        b'R' => next.chip2 = chip::with_marks(table, case.chip2, digits),
+        b'S' => next.chip3 = chip::with_marks(table, case.chip3, digits),
         _ => {}
     }
-    next
+    Ok(next)
 }
 
 // Runs the lines of a case.
-fn run_lines(table: &[u32; 256], case: Case, lines: &[u8])
+fn run_lines<W: Write>(out: &mut W, table: &[u32; 256], case: Case, lines: &[u8]) -> io::Result<()>
     requires { table.now ≡ digit_table }
 {
     let mut now = case;
-    let mut at: usize = 0;
-    while at < lines.len() {
-        let end = at + printing::count_before(b'\n', &lines[at..]);
-        // behind the line end
-        let next = end + marks::smaller(1, lines.len() - end);
-        now = run_line(table, now, &lines[at..end]);
-        at = next;
+    for line in lines.split(|c| *c == b'\n') {
+        now = run_line(out, table, now, line)?;
     }
+    Ok(())
 }
 
 // The case that a heading begins.
 fn case_of(table: &[u32; 256], heading: &[u8]) -> Case
-    requires { (table.now ≡ digit_table) × (9 < length heading.now) }
+    requires table { table.now ≡ digit_table }
+    requires heading { 9 < length heading.now }
 {
     Case {
         at: hex_read::number_of(table, &heading[1..9]),
@@ -267,38 +232,42 @@ fn case_of(table: &[u32; 256], heading: &[u8]) -> Case
 }
 
 // Runs the first of some cases and returns how many characters it has.
-fn run_case(table: &[u32; 256], cases: &[u8]) -> usize
-    requires { (table.now ≡ digit_table) × (0 < length cases.now) }
-    ensures { (0 < result) × (result ≤ length cases.now) }
+fn run_case<W: Write>(out: &mut W, table: &[u32; 256], cases: &[u8]) -> io::Result<usize>
+    requires table { table.now ≡ digit_table }
+    requires some { 0 < length cases.now }
+    ensures some { IfOk result (λ n. 0 < n) }
+    ensures within { IfOk result (λ n. n ≤ length cases.now) }
 {
     let end = printing::count_before(b'\n', cases);
     if end < 9 {
-        io::write_all(STDOUT_FILENO, b"bad heading\n");
-        return cases.len();
+        writeln!(out, "bad heading")?;
+        return Ok(cases.len());
     }
     if end == cases.len() {
-        io::write_all(STDOUT_FILENO, b"no lines\n");
-        return end;
+        writeln!(out, "no lines")?;
+        return Ok(end);
     }
     let from = end + 1;
     let to = from + printing::count_before(b'@', &cases[from..]);
-    io::write_all(STDOUT_FILENO, &cases[..from]);
+    out.write_all(&cases[..from])?;
     let case = case_of(table, &cases[..from]);
-    run_lines(table, case, &cases[from..to]);
-    to
+    run_lines(out, table, case, &cases[from..to])?;
+    Ok(to)
 }
 
 // Runs all cases.
-fn run_cases(cases: &[u8]) {
+fn run_cases<W: Write>(out: &mut W, cases: &[u8]) -> io::Result<()> {
     let table = hex_read::digit_table();
     let mut at: usize = 0;
     while at < cases.len() {
-        at += run_case(&table, &cases[at..]);
+        at += run_case(out, &table, &cases[at..])?;
     }
+    Ok(())
 }
 
-fn main() {
-    let mut cases = io::large_buffer();
-    let n = io::read_full(STDIN_FILENO, &mut cases);
-    run_cases(&cases[..n]);
+fn main(rt: HostRuntime) -> io::Result<()> {
+    let cases = printing::read_cases(&rt)?;
+    let mut out = BufWriter::new(rt.alloc(), io::writer(&rt))?;
+    run_cases(&mut out, &cases)?;
+    out.flush()
 }

@@ -10,7 +10,7 @@ pub const CELLS: usize = 64;
 // So has a header: more than row 15 allows.
 pub const HEADER: usize = 300;
 
-#[derive(Drop)]
+#[derive(Clone, Copy)]
 pub struct Image {
     pub memory: [u8; CELLS],
     pub cells: usize,
@@ -43,7 +43,7 @@ pub fn first<'a>(bytes: &'a [u8], n: usize) -> &'a [u8] {
 }
 
 // Its entry, if it has one.
-pub fn entry_of(image: Image) -> Entry {
+pub fn entry_of(image: &Image) -> Entry {
     if image.has_entry {
         return Entry::Present(image.entry);
     }
@@ -65,22 +65,10 @@ pub fn set(table: &[u32; 256], image: Image, letter: u8, digits: &[u8]) -> Image
     requires { table.now ≡ digit_table }
 {
     let mut next = image;
-    let mut memory = image.memory;
-    let mut marks = image.marks;
-    let mut header = image.header;
     match letter {
-        b'm' => {
-            next.cells = printing::bytes_in(table, digits, &mut memory);
-            next.memory = memory;
-        }
-        b'k' => {
-            next.marked = printing::bytes_in(table, digits, &mut marks);
-            next.marks = marks;
-        }
-        b'h' => {
-            next.len = printing::bytes_in(table, digits, &mut header);
-            next.header = header;
-        }
+        b'm' => next.cells = printing::bytes_in(table, digits, &mut next.memory),
+        b'k' => next.marked = printing::bytes_in(table, digits, &mut next.marks),
+        b'h' => next.len = printing::bytes_in(table, digits, &mut next.header),
         _ => {
             next.has_entry = digits.len() >= 8;
             next.entry = address_in(table, digits);

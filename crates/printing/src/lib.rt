@@ -1,26 +1,41 @@
-// What the programs over cases share: where a piece of their input ends, which bytes its digits give, and how they print an answer.
-ghost use Rattle.std.specs.Prelude.{◌≡◌, ◌≤◌, length};
+// What the programs over cases share: how they read their input, where a piece of it ends, which bytes its digits give, and how they print
+// an answer.
+#![tactic(auto)]
+
+ghost use Rattle.std.specs.Prelude.{◌≡◌, ◌≤◌, length, OnOk};
+ghost use Rattle.std.specs.Io.KnownBytes.{Appends};
 ghost use Rattle.hex_digits.specs.Tables.{digit_table};
 ghost use Rattle.printing.specs.Cases.{before};
+ghost use Rattle.printing.specs.Lines.{pairs, bytes_line, refusal_text};
 
-use libc::STDOUT_FILENO;
+use std::io;
+use std::io::{Read, Write};
 use window::{Entry, Loaded, Refusal};
+
+// An input has at most so many bytes; what stands behind them is not read.
+const INPUT: u64 = 65536;
 
 // A line has at most so many bytes.
 const LINE: usize = 1024;
 
+// The cases on standard input.
+pub fn read_cases<R: Input + AllocGlobal>(rt: &R) -> io::Result<Vec<u8>> {
+    let mut cases = Vec::new(rt.alloc());
+    rt.reader().take(INPUT).read_to_end(&mut cases)?;
+    Ok(cases)
+}
+
 // How many characters stand before the first that equals `stop`, or before the end.
 pub fn count_before(stop: u8, chars: &[u8]) -> usize
-    ensures { (result ≡ before stop chars.now) × (result ≤ length chars.now) }
+    ensures place { result ≡ before stop chars.now }
+    ensures within { result ≤ length chars.now }
 {
-    let mut i: usize = 0;
-    while i < chars.len() {
+    for i in 0..chars.len() {
         if chars[i] == stop {
             return i;
         }
-        i += 1;
     }
-    i
+    chars.len()
 }
 
 // Stores the bytes of pairs of digits, as many as there is room for: how many. Spaces and line ends before a pair are passed over.
@@ -60,75 +75,72 @@ fn significant(bytes: &[u8; 252]) -> usize
 }
 
 // The first of some bytes, no more than a line can have, in capital digits.
-pub fn print_pairs(bytes: &[u8]) {
+pub fn print_pairs<W: Write>(out: &mut W, bytes: &[u8]) -> io::Result<()>
+    ensures { OnOk result (Appends (W.contents out.old) (W.contents out.new) (pairs bytes.now)) }
+{
     let n = marks::smaller(bytes.len(), LINE);
-    let mut digits = [0u8; 2048];
+    let mut digits = [0u8; 2 * LINE];
     hex_write::put_pairs(&mut digits, 0, &bytes[..n]);
-    let end = 2 * n;
-    io::write_all(STDOUT_FILENO, &digits[..end]);
+    out.write_all(&digits[..2 * n])
 }
 
 // A word, and bytes behind it, on a line.
-pub fn print_bytes(word: &[u8], bytes: &[u8]) {
-    io::write_all(STDOUT_FILENO, word);
-    print_pairs(bytes);
-    io::write_all(STDOUT_FILENO, b"\n");
+pub fn print_bytes<W: Write>(out: &mut W, word: &str, bytes: &[u8]) -> io::Result<()>
+    ensures { OnOk result (Appends (W.contents out.old) (W.contents out.new) (bytes_line word.now bytes.now)) }
+{
+    write!(out, "{word}")?;
+    print_pairs(out, bytes)?;
+    writeln!(out)
 }
 
-fn print_byte(byte: u8) {
-    io::print_hex(STDOUT_FILENO, byte as u64, 2);
+fn print_byte<W: Write>(out: &mut W, byte: u8) -> io::Result<()> {
+    write!(out, "{byte:02x}")
 }
 
 // A header's length, and its bytes without the zeros at their end.
-pub fn print_header(len: usize, bytes: &[u8; 252]) {
-    io::print_decimal(STDOUT_FILENO, len as u64);
-    io::write_all(STDOUT_FILENO, b":");
-    let n = significant(bytes);
-    let mut i: usize = 0;
-    while i < n {
-        print_byte(bytes[i]);
-        i += 1;
+pub fn print_header<W: Write>(out: &mut W, len: usize, bytes: &[u8; 252]) -> io::Result<()> {
+    write!(out, "{len}:")?;
+    for byte in &bytes[..significant(bytes)] {
+        print_byte(out, *byte)?;
     }
+    Ok(())
 }
 
 // Every number of a refusal, the byte that would have been right in two capital digits.
-pub fn print_refusal(refusal: Refusal) {
-    io::print_decimal(STDOUT_FILENO, refusal.reason as u64);
-    io::write_all(STDOUT_FILENO, b" record ");
-    io::print_decimal(STDOUT_FILENO, refusal.ordinal as u64);
-    io::write_all(STDOUT_FILENO, b" at ");
-    io::print_decimal(STDOUT_FILENO, refusal.place as u64);
-    let mut digits = [0u8; 2];
-    hex_write::put_pair(&mut digits, 0, refusal.want);
-    io::write_all(STDOUT_FILENO, b" want ");
-    io::write_all(STDOUT_FILENO, &digits);
+pub fn print_refusal<W: Write>(out: &mut W, refusal: Refusal) -> io::Result<()>
+    ensures { OnOk result (Appends (W.contents out.old) (W.contents out.new) (refusal_text refusal)) }
+{
+    let Refusal {
+        reason,
+        ordinal,
+        place,
+        want,
+    } = refusal;
+    write!(out, "{reason} record {ordinal} at {place} want ")?;
+    print_pairs(out, &[want])
 }
 
 // The address of an entry, or that there is none.
-pub fn print_entry(entry: Entry) {
+pub fn print_entry<W: Write>(out: &mut W, entry: Entry) -> io::Result<()> {
     match entry {
-        Entry::Absent => {
-            io::write_all(STDOUT_FILENO, b"none");
-        }
-        Entry::Present(address) => {
-            io::print_hex(STDOUT_FILENO, address as u64, 8);
-        }
+        Entry::Absent => write!(out, "none"),
+        Entry::Present(address) => write!(out, "{address:08x}"),
     }
 }
 
 // Every field of a load's answer.
-pub fn print_answer(loaded: Loaded) {
-    print_refusal(loaded.refusal);
-    io::write_all(STDOUT_FILENO, b" records ");
-    io::print_decimal(STDOUT_FILENO, loaded.records as u64);
-    io::write_all(STDOUT_FILENO, b" cells ");
-    io::print_decimal(STDOUT_FILENO, loaded.cells as u64);
-    io::write_all(STDOUT_FILENO, b" entry ");
-    let entry = loaded.entry;
-    print_entry(entry);
-    io::write_all(STDOUT_FILENO, b" header ");
-    let header = loaded.header;
-    let bytes = header.bytes;
-    print_header(header.len, &bytes);
-    io::write_all(STDOUT_FILENO, b"\n");
+pub fn print_answer<W: Write>(out: &mut W, loaded: Loaded) -> io::Result<()> {
+    let Loaded {
+        refusal,
+        header,
+        entry,
+        records,
+        cells,
+    } = loaded;
+    print_refusal(out, refusal)?;
+    write!(out, " records {records} cells {cells} entry ")?;
+    print_entry(out, entry)?;
+    write!(out, " header ")?;
+    print_header(out, header.len, &header.bytes)?;
+    writeln!(out)
 }

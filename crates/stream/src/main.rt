@@ -1,9 +1,13 @@
 // The stream program: S-record text of any length on standard input, loaded in parts of 65,536 characters, and its canonical text on
 // standard output, for a window of 65,536 cells from address 0.
+#![tactic(auto)]
+
 ghost use Rattle.std.specs.Prelude.{◌<◌};
 
-use libc::{STDIN_FILENO, STDOUT_FILENO};
 use session::Session;
+use std::alloc::Global;
+use std::io;
+use std::io::{Read, Write};
 use window::Loaded;
 
 // The characters of a part, and so many full parts that row 20 refuses the last of them at the latest.
@@ -31,52 +35,60 @@ fn parts_left(left: usize, n: usize, session: Session) -> usize
     requires { 0 < left }
     ensures { result < left }
 {
-    let refusal = session.refusal;
-    if n < PART || refusal.reason != 0 {
+    if n < PART || session.refusal.reason != 0 {
         return 0;
     }
     left - 1
 }
 
-// Loads standard input part by part. The count of parts ends no load that goes on: behind so many full ones row 20 has refused it.
-fn load_input(memory: &mut [u8], marks: &mut [u8]) -> Loaded {
-    let mut part = [0u8; PART];
+// Loads an input part by part. The count of parts ends no load that goes on: behind so many full ones row 20 has refused it.
+fn load_input<R: Read>(
+    alloc: Global,
+    input: &mut R,
+    memory: &mut [u8],
+    marks: &mut [u8],
+) -> io::Result<Loaded> {
+    let mut part = Vec::with_capacity(alloc, PART)?;
     let mut session = begin::begin(BASE, memory, marks);
     let mut left = PARTS;
     while left > 0 {
-        let n = io::read_full(STDIN_FILENO, &mut part);
-        session = feed::feed(session, &part[..n], BASE, memory, marks);
-        left = parts_left(left, n, session);
+        part.clear();
+        input.by_ref().take(PART as u64).read_to_end(&mut part)?;
+        session = feed::feed(session, &part, BASE, memory, marks);
+        left = parts_left(left, part.len(), session);
     }
     let ended = end::end(session, BASE, memory, marks);
-    ended.loaded
+    Ok(ended.loaded)
 }
 
 // Prints the canonical text of what an accepted load left.
-fn print_text(loaded: Loaded, memory: &[u8], marks: &[u8]) {
-    let header = loaded.header;
-    let bytes = header.bytes;
+fn print_text<W: Write>(
+    alloc: Global,
+    out: &mut W,
+    loaded: Loaded,
+    memory: &[u8],
+    marks: &[u8],
+) -> io::Result<()> {
+    let Loaded { header, entry, .. } = loaded;
     let len = marks::smaller(header.len, MOST_HEADER);
-    let entry = loaded.entry;
-    let mut out = [0u8; ROOM];
-    let written = srec_write::write(BASE, memory, marks, &bytes[..len], entry, &mut out);
-    let refusal = written.refusal;
-    if refusal.reason != 0 {
-        report::print_refusal(refusal);
-        return;
+    let header = &header.bytes[..len];
+    let mut text = vec![in alloc; 0u8; ROOM]?;
+    let written = srec_write::write(BASE, memory, marks, header, entry, &mut text);
+    if written.refusal.reason != 0 {
+        return report::print_refusal(out, written.refusal);
     }
     let length = marks::smaller(written.length, ROOM);
-    io::write_all(STDOUT_FILENO, &out[..length]);
+    out.write_all(&text[..length])
 }
 
-fn main() {
-    let mut memory = [0u8; CELLS];
-    let mut marks = [0u8; CELLS];
-    let loaded = load_input(&mut memory, &mut marks);
-    let refusal = loaded.refusal;
-    if refusal.reason != 0 {
-        report::print_refusal(refusal);
-        return;
+fn main(rt: HostRuntime) -> io::Result<()> {
+    let alloc = rt.alloc();
+    let mut out = io::writer(&rt);
+    let mut memory = vec![in alloc; 0u8; CELLS]?;
+    let mut marks = vec![in alloc; 0u8; CELLS]?;
+    let loaded = load_input(alloc, &mut rt.reader(), &mut memory, &mut marks)?;
+    if loaded.refusal.reason != 0 {
+        return report::print_refusal(&mut out, loaded.refusal);
     }
-    print_text(loaded, &memory, &marks);
+    print_text(alloc, &mut out, loaded, &memory, &marks)
 }

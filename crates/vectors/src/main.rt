@@ -5,39 +5,49 @@
 // space for S-records, `$` for S-records behind a symbol block, `;` for a paper tape whose last line repeats its number, and `+` for one
 // whose last line has the usual sum. A `%` between that sign and the name stores the marks packed, all bits set before; an accepted
 // text's marks are printed then. Behind a symbol block marks are bytes.
-ghost use Rattle.std.specs.Prelude.{◌≡◌, ◌≤◌, ◌<◌, length};
+#![tactic(auto)]
+
+ghost use Rattle.std.specs.Prelude.{◌≡◌, ◌≤◌, ◌<◌, length, IfOk};
 ghost use Rattle.hex_digits.specs.Tables.{digit_table};
 
 use convert::Converted;
 use formats::Format;
-use libc::{STDIN_FILENO, STDOUT_FILENO};
 use marks::Form;
+use std::io;
+use std::io::{BufWriter, Write};
 use tape::Edition;
 use window::{Entry, Loaded, Written};
 
 // The most bytes of a header.
 const MOST_HEADER: usize = 252;
 
+// A window has at most so many cells, and a canonical text at most so many characters.
+const ROOM: usize = 65536;
+
+// The first of some characters, if there are so many.
+fn print_text<W: Write>(out: &mut W, output: &[u8], length: usize) -> io::Result<()> {
+    if length <= output.len() {
+        out.write_all(&output[..length])?;
+    }
+    Ok(())
+}
+
 // The canonical text of a text, or why it is refused.
-fn print_canonical(
+fn print_canonical<W: Write>(
+    out: &mut W,
     format: Format,
     base: u32,
     text: &[u8],
     memory: &mut [u8],
     marks: &mut [u8],
-    out: &mut [u8],
-) {
-    let converted = convert::convert(format, base, text, memory, marks, out);
-    match converted {
+    output: &mut [u8],
+) -> io::Result<()> {
+    match convert::convert(format, base, text, memory, marks, output) {
         Converted::Refused(refusal) => {
-            printing::print_refusal(refusal);
-            io::write_all(STDOUT_FILENO, b"\n");
+            printing::print_refusal(out, refusal)?;
+            writeln!(out)
         }
-        Converted::Text(length) => {
-            if length <= out.len() {
-                io::write_all(STDOUT_FILENO, &out[..length]);
-            }
-        }
+        Converted::Text(length) => print_text(out, output, length),
     }
 }
 
@@ -50,97 +60,111 @@ fn write_window(
     marks: &[u8],
     header: &[u8],
     entry: Entry,
-    out: &mut [u8],
+    output: &mut [u8],
 ) -> Written {
     match format {
-        Format::Records => { srec_write::write_as(form, base, memory, marks, header, entry, out) }
+        Format::Records => {
+            srec_write::write_as(form, base, memory, marks, header, entry, output)
+        }
         Format::Tape(edition) => {
-            tape_write::write_as(edition, form, base, memory, marks, header, entry, out)
+            tape_write::write_as(edition, form, base, memory, marks, header, entry, output)
         }
     }
 }
 
 // The canonical text of what a load left in a window, or why it is refused.
-fn print_window(
+fn print_window<W: Write>(
+    out: &mut W,
     format: Format,
     form: Form,
     loaded: Loaded,
     base: u32,
     memory: &[u8],
     marks: &[u8],
-    out: &mut [u8],
-) {
-    let header = loaded.header;
-    let bytes = header.bytes;
+    output: &mut [u8],
+) -> io::Result<()> {
+    let Loaded { header, entry, .. } = loaded;
     let len = marks::smaller(header.len, MOST_HEADER);
-    let entry = loaded.entry;
-    let written = write_window(format, form, base, memory, marks, &bytes[..len], entry, out);
-    let refusal = written.refusal;
-    if refusal.reason != 0 {
-        printing::print_refusal(refusal);
-        io::write_all(STDOUT_FILENO, b"\n");
-        return;
+    let header = &header.bytes[..len];
+    let written = write_window(format, form, base, memory, marks, header, entry, output);
+    if written.refusal.reason != 0 {
+        printing::print_refusal(out, written.refusal)?;
+        return writeln!(out);
     }
-    if written.length <= out.len() {
-        io::write_all(STDOUT_FILENO, &out[..written.length]);
-    }
+    print_text(out, output, written.length)
 }
 
 // Packed marks, and the canonical text of what they mark, or why it is refused.
-fn print_packed(
+fn print_packed<W: Write>(
+    out: &mut W,
     format: Format,
     loaded: Loaded,
     base: u32,
     memory: &[u8],
     marks: &[u8],
-    out: &mut [u8],
-) {
-    io::write_all(STDOUT_FILENO, b"marks ");
-    printing::print_pairs(marks);
-    io::write_all(STDOUT_FILENO, b"\n");
-    print_window(format, Form::Packed, loaded, base, memory, marks, out);
+    output: &mut [u8],
+) -> io::Result<()> {
+    printing::print_bytes(out, "marks ", marks)?;
+    print_window(
+        out,
+        format,
+        Form::Packed,
+        loaded,
+        base,
+        memory,
+        marks,
+        output,
+    )
 }
 
 // Loads a text behind a symbol block and prints the answer, and the canonical text if there is one.
-fn run_behind(base: u32, text: &[u8], memory: &mut [u8], marks: &mut [u8], out: &mut [u8]) {
+fn run_behind<W: Write>(
+    out: &mut W,
+    base: u32,
+    text: &[u8],
+    memory: &mut [u8],
+    marks: &mut [u8],
+    output: &mut [u8],
+) -> io::Result<()> {
     mark_bytes::fill(marks, 255);
     let loaded = symbol_load::load_behind(text, base, memory, marks);
-    printing::print_answer(loaded);
-    let refusal = loaded.refusal;
-    if refusal.reason != 0 {
-        return;
+    printing::print_answer(out, loaded)?;
+    if loaded.refusal.reason != 0 {
+        return Ok(());
     }
+    let format = Format::Records;
     print_window(
-        Format::Records,
+        out,
+        format,
         Form::Bytes,
         loaded,
         base,
         memory,
         marks,
-        out,
-    );
+        output,
+    )
 }
 
 // Loads a text and prints the answer, and the canonical text if there is one.
-fn run_text(
+fn run_text<W: Write>(
+    out: &mut W,
     format: Format,
     form: Form,
     base: u32,
     text: &[u8],
     memory: &mut [u8],
     marks: &mut [u8],
-    out: &mut [u8],
-) {
+    output: &mut [u8],
+) -> io::Result<()> {
     mark_bytes::fill(marks, 255);
     let loaded = loader::load_as(format, form, text, base, memory, marks);
-    printing::print_answer(loaded);
-    let refusal = loaded.refusal;
-    if refusal.reason != 0 {
-        return;
+    printing::print_answer(out, loaded)?;
+    if loaded.refusal.reason != 0 {
+        return Ok(());
     }
     match form {
-        Form::Bytes => print_canonical(format, base, text, memory, marks, out),
-        Form::Packed => print_packed(format, loaded, base, memory, marks, out),
+        Form::Bytes => print_canonical(out, format, base, text, memory, marks, output),
+        Form::Packed => print_packed(out, format, loaded, base, memory, marks, output),
     }
 }
 
@@ -167,74 +191,72 @@ fn form_of(heading: &[u8]) -> Form {
 }
 
 // Runs a text in the window, the format and the form of marks that its heading gives.
-fn run_window(table: &[u32; 256], heading: &[u8], text: &[u8])
-    requires { (table.now ≡ digit_table) × (19 ≤ length heading.now) }
+fn run_window<W: Write>(
+    out: &mut W,
+    table: &[u32; 256],
+    heading: &[u8],
+    text: &[u8],
+) -> io::Result<()>
+    requires table { table.now ≡ digit_table }
+    requires heading { 19 ≤ length heading.now }
 {
-    let format = format_of(heading[18]);
-    let form = form_of(heading);
+    let sign = heading[18];
     let base = hex_read::number_of(table, &heading[1..9]);
     let cells = hex_read::number_of(table, &heading[10..18]) as usize;
-    if cells > 65536 {
-        io::write_all(STDOUT_FILENO, b"too many cells\n");
-        return;
+    if cells > ROOM {
+        return writeln!(out, "too many cells");
     }
+    let mut memory = [0u8; ROOM];
+    let mut marks = [0u8; ROOM];
+    let mut output = [0u8; ROOM];
+    let memory = &mut memory[..cells];
+    let output = &mut output;
+    if sign == b'$' {
+        return run_behind(out, base, text, memory, &mut marks[..cells], output);
+    }
+    let format = format_of(sign);
+    let form = form_of(heading);
     let n = marks::smaller(marks::bytes_for(form, cells), cells);
-    let mut memory = io::large_buffer();
-    let mut marks = io::large_buffer();
-    let mut out = io::large_buffer();
-    if heading[18] == b'$' {
-        run_behind(
-            base,
-            text,
-            &mut memory[..cells],
-            &mut marks[..cells],
-            &mut out,
-        );
-        return;
-    }
-    run_text(
-        format,
-        form,
-        base,
-        text,
-        &mut memory[..cells],
-        &mut marks[..n],
-        &mut out,
-    );
+    let marks = &mut marks[..n];
+    run_text(out, format, form, base, text, memory, marks, output)
 }
 
 // Runs the first of some cases and returns how many characters it has.
-fn run_case(table: &[u32; 256], cases: &[u8]) -> usize
-    requires { (table.now ≡ digit_table) × (0 < length cases.now) }
-    ensures { (0 < result) × (result ≤ length cases.now) }
+fn run_case<W: Write>(out: &mut W, table: &[u32; 256], cases: &[u8]) -> io::Result<usize>
+    requires table { table.now ≡ digit_table }
+    requires some { 0 < length cases.now }
+    ensures some { IfOk result (λ n. 0 < n) }
+    ensures within { IfOk result (λ n. n ≤ length cases.now) }
 {
-    let end = printing::count_before(10, cases);
+    let end = printing::count_before(b'\n', cases);
     if end < 19 {
-        io::write_all(STDOUT_FILENO, b"bad heading\n");
-        return cases.len();
+        writeln!(out, "bad heading")?;
+        return Ok(cases.len());
     }
     if end == cases.len() {
-        io::write_all(STDOUT_FILENO, b"no text\n");
-        return end;
+        writeln!(out, "no text")?;
+        return Ok(end);
     }
     let from = end + 1;
-    let to = from + printing::count_before(64, &cases[from..]);
-    io::write_all(STDOUT_FILENO, &cases[..from]);
-    run_window(table, &cases[..end], &cases[from..to]);
-    to
+    let to = from + printing::count_before(b'@', &cases[from..]);
+    out.write_all(&cases[..from])?;
+    run_window(out, table, &cases[..end], &cases[from..to])?;
+    Ok(to)
 }
 
 // Runs all cases.
-fn run_cases(cases: &[u8]) {
+fn run_cases<W: Write>(out: &mut W, cases: &[u8]) -> io::Result<()> {
     let table = hex_read::digit_table();
     let mut at: usize = 0;
     while at < cases.len() {
-        at += run_case(&table, &cases[at..]);
+        at += run_case(out, &table, &cases[at..])?;
     }
+    Ok(())
 }
 
-fn main() {
-    let mut cases = io::large_buffer();
-    let n = io::read_full(STDIN_FILENO, &mut cases);
-    run_cases(&cases[..n]);
+fn main(rt: HostRuntime) -> io::Result<()> {
+    let cases = printing::read_cases(&rt)?;
+    let mut out = BufWriter::new(rt.alloc(), io::writer(&rt))?;
+    run_cases(&mut out, &cases)?;
+    out.flush()
 }
