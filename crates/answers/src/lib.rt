@@ -1,4 +1,6 @@
 // The answers of a load: refused, or accepted.
+#![tactic(auto)]
+
 ghost use Rattle.std.specs.Prelude.{◌≡◌};
 ghost use Rattle.window.specs.Plans.{refusal};
 ghost use Rattle.window.specs.Plans.Outcome.{refused};

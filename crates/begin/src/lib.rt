@@ -1,4 +1,6 @@
 // A load in parts begun: row 1, and no mark is left.
+#![tactic(auto)]
+
 ghost use Rattle.std.specs.Prelude.{◌≡◌};
 ghost use Rattle.window.specs.Windows.{window_of};
 ghost use Rattle.parts.specs.Parts.{begun};

@@ -1,4 +1,6 @@
 // Runs of marks of one bit a cell: where the next set bit stands, and the next clear one. Whole bytes are looked at at once.
+#![tactic(auto)]
+
 ghost use Rattle.std.specs.Prelude.{◌≡◌, ◌+◌, ◌-◌, ◌*◌, ◌≤◌, length};
 ghost use Rattle.window.specs.Walks.{unmarked, run};
 ghost use Rattle.bits.specs.Bits.{bits};

@@ -1,4 +1,6 @@
 // Marks of one bit a cell: cell i in bit i modulo 8 of byte i / 8. Whole bytes are set at once.
+#![tactic(auto)]
+
 ghost use Rattle.std.specs.Prelude.{◌≡◌, ◌+◌, ◌-◌, ◌*◌, ◌^◌, ◌≤◌, min, length};
 ghost use Rattle.bits.specs.Bits.{bits, byte_count, pack, ones_of};
 ghost use Rattle.bits.specs.Steps.{Painted};

@@ -1,5 +1,7 @@
 // Rows of sixteen cells, one a memory chip, as a block: cell by cell, as the image has them. Whole rows go through numbers of two cells:
 // so the compiler takes sixteen at once.
+#![tactic(auto)]
+
 ghost use Rattle.std.specs.Prelude.{◌≡◌, [], ◌∷◌, ◌++◌, ◌+◌, ◌*◌, ◌≤◌, ◌<◌, length, get_or};
 ghost use Rattle.chips.specs.Promises.{Count};
 ghost use Rattle.blocks.specs.Blocks.{RowAt, RowsAt, Reach, Spread, BlockOf, bytes, PairsOf, Laid};
@@ -14,7 +16,7 @@ fn row_at(cells: &[u8], at: usize, size: usize) -> [u8; 16]
 {
     let mut row = [0u8; 16];
     let to = at + size;
-    bytes::copy(&cells[at..to], &mut row);
+    row[..size].copy_from_slice(&cells[at..to]);
     row
 }
 

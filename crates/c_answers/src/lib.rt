@@ -1,4 +1,6 @@
 // What C is told and tells: answers as structs of numbers, and formats and entries by number. include/srec.h declares the structs.
+#![tactic(auto)]
+
 ghost use Rattle.std.specs.Prelude.{◌≡◌};
 ghost use Rattle.window.specs.Plans.{is_present, address_of};
 ghost use Rattle.c_answers.specs.Answers.{flag_of, answer_of, bare_of, result_of, reach_of, entry_for, format_for};
@@ -10,7 +12,7 @@ use window::{Entry, Header, Loaded, Refusal, Written};
 
 // The answer of a load: `struct srec_loaded`.
 #[repr(C)]
-#[derive(Drop)]
+#[derive(Clone, Copy)]
 pub struct Answer {
     pub reason: u32,
     pub want: u32,
@@ -26,7 +28,7 @@ pub struct Answer {
 
 // The span of cells: `struct srec_range`.
 #[repr(C)]
-#[derive(Drop)]
+#[derive(Clone, Copy)]
 pub struct Reach {
     pub any: u32,
     pub lowest: usize,
@@ -35,7 +37,7 @@ pub struct Reach {
 
 // The answer of a write: `struct srec_written`.
 #[repr(C)]
-#[derive(Drop)]
+#[derive(Clone, Copy)]
 pub struct Result {
     pub reason: u32,
     pub place: usize,

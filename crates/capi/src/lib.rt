@@ -1,4 +1,6 @@
 // The C face: four thin functions over the library. include/srec.h declares them.
+#![tactic(auto)]
+
 ghost use Rattle.std.specs.Prelude.{◌≡◌, [], length};
 ghost use Rattle.window.specs.declared.Entry.TheVariants.{Absent, Present};
 ghost use Rattle.window.specs.Windows.{window_of};

@@ -1,1 +1,2 @@
 // The canonical texts of chips, loaded and collected: statements alone.
+#![tactic(auto)]

@@ -1,4 +1,6 @@
 // Chips that share an image: rows 21, 1 and 16 of dealing and collecting, and the size of a row.
+#![tactic(auto)]
+
 ghost use Rattle.std.specs.Prelude.{◌≡◌, not, false, min, ◌<◌, length};
 ghost use Rattle.window.specs.Plans.{refusal};
 ghost use Rattle.window.specs.Images.{image};
@@ -9,7 +11,7 @@ ghost use Rattle.chips.specs.Promises.{unfit, length_row};
 use window::{Entry, Header, Refusal};
 
 // The answer of collecting: an empty header and no entry, whether it is refused or not. An accepted one has a refusal of zeros.
-#[derive(Drop)]
+#[derive(Clone, Copy)]
 pub struct Collected {
     pub refusal: Refusal,
     pub header: Header,

@@ -1,4 +1,6 @@
 // Dealing and collecting for C. include/srec.h declares them.
+#![tactic(auto)]
+
 ghost use Rattle.std.specs.Prelude.{◌≡◌};
 ghost use Rattle.window.specs.Windows.{window_of};
 ghost use Rattle.chips.specs.Boards.{buffers_of, board_of};

@@ -1,4 +1,6 @@
 // The cells of a record claimed in a window's marks: rows 12 and 13.
+#![tactic(auto)]
+
 ghost use Rattle.std.specs.Prelude.{◌≡◌, ◌-◌, ◌≤◌, length, take, drop, replicate};
 ghost use Rattle.lists.specs.Lists.{over};
 ghost use Rattle.window.specs.Marks.{is_free, claim_row, claimed};

@@ -1,4 +1,6 @@
 // An image collected from two or four memory chips, by rows of sixteen cells a chip.
+#![tactic(auto)]
+
 ghost use Rattle.std.specs.Prelude.{◌≡◌, [], ◌/◌, length};
 ghost use Rattle.window.specs.declared.Entry.TheVariants.{Absent};
 ghost use Rattle.window.specs.Headers.{header_of};

@@ -1,4 +1,6 @@
 // One row of an image collected from two or four memory chips: sixteen cells a chip.
+#![tactic(auto)]
+
 ghost use Rattle.std.specs.Prelude.{◌+◌, ◌*◌, ◌/◌, ◌≤◌, length};
 ghost use Rattle.chips.specs.Boards.{buffers_of, board_of};
 ghost use Rattle.collect_row.specs.Collecting.{Ready, Collects};

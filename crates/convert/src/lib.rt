@@ -1,4 +1,6 @@
 // A text to its canonical text: a load, and a write of what it left, both in the format that is told.
+#![tactic(auto)]
+
 ghost use Rattle.std.specs.Prelude.{◌≡◌, length};
 ghost use Rattle.window.specs.Windows.{window_of};
 ghost use Rattle.text.specs.Formats.{plan};
@@ -11,7 +13,7 @@ use marks::Form;
 use window::Refusal;
 
 // The refusal of the load or of the write, or the length of the canonical text.
-#[derive(Drop)]
+#[derive(Clone, Copy)]
 pub enum Converted {
     Refused(Refusal),
     Text(usize),

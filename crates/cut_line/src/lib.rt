@@ -1,4 +1,6 @@
 // The line that the end of a part cut.
+#![tactic(auto)]
+
 ghost use Rattle.std.specs.Prelude.{◌≡◌, ◌++◌, map, ◌+◌, min, length, take};
 ghost use Rattle.hex_digits.specs.Tables.{digit_table};
 ghost use Rattle.text.specs.Lines.{front};

@@ -1,4 +1,6 @@
 // A text loaded in parts of equal length, for the benchmark and for tests in C. include/srec.h does not declare it.
+#![tactic(auto)]
+
 ghost use Rattle.std.specs.Prelude.{◌≡◌, ◌<◌, max, length};
 ghost use Rattle.window.specs.Windows.{window_of};
 ghost use Rattle.parts.specs.Parts.{stage};

@@ -1,4 +1,6 @@
 // One data byte of a line, read where it stands.
+#![tactic(auto)]
+
 ghost use Rattle.std.specs.Prelude.{◌≡◌, ◌≤◌, ◌<◌, length, get_or};
 ghost use Rattle.hex_digits.specs.Tables.{digit_table};
 ghost use Rattle.formats.specs.Choices.{format_of};

@@ -1,4 +1,6 @@
 // The data lines of a canonical text, in the format that is told: a line for each run.
+#![tactic(auto)]
+
 ghost use Rattle.std.specs.Prelude.{◌≡◌, ◌+◌, ◌^◌, ◌≤◌, length};
 ghost use Rattle.lists.specs.Lists.{over};
 ghost use Rattle.window.specs.Windows.{window_of};

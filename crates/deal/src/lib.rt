@@ -1,4 +1,6 @@
 // An image dealt over two or four memory chips, by rows of sixteen cells a chip.
+#![tactic(auto)]
+
 ghost use Rattle.std.specs.Prelude.{◌≡◌, ◌-◌, ◌/◌, length};
 ghost use Rattle.window.specs.Windows.{window_of};
 ghost use Rattle.chips.specs.Boards.{buffers_of, board_of};

@@ -1,4 +1,6 @@
 // One row of an image dealt over two or four memory chips: sixteen cells a chip.
+#![tactic(auto)]
+
 ghost use Rattle.std.specs.Prelude.{◌≡◌, false, ◌+◌, ◌-◌, ◌/◌, ◌≤◌, ◌<◌, length, get_or, take};
 ghost use Rattle.window.specs.Windows.{row16};
 ghost use Rattle.chips.specs.Boards.{buffers_of, board_of};

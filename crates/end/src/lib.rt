@@ -1,4 +1,6 @@
 // A load in parts ended: its answer.
+#![tactic(auto)]
+
 ghost use Rattle.std.specs.Prelude.{◌≡◌};
 ghost use Rattle.window.specs.Windows.{window_of};
 ghost use Rattle.parts.specs.Forms.{end_as, answered_in};
@@ -8,7 +10,7 @@ use session::Session;
 use window::Loaded;
 
 // What ended a load: its answer, and the state behind it.
-#[derive(Drop)]
+#[derive(Clone, Copy)]
 pub struct Ended {
     pub loaded: Loaded,
     pub session: Session,

@@ -1,1 +1,2 @@
 // The normal form of an expression's text: statements alone.
+#![tactic(auto)]

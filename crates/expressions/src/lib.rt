@@ -1,5 +1,7 @@
 // Address expressions: sum := term (('+' | '-') term)*, term := '$' digits | '(' sum ')' | name. A sum and a term are read by
 // functions that call each other; the text left falls, and at most 32 brackets are open at once.
+#![tactic(auto)]
+
 ghost use Rattle.std.specs.Prelude.{◌≡◌};
 ghost use Rattle.symbol_table.specs.Symbols.{symbols_in};
 ghost use Rattle.operands.specs.Reading.{term_at, sum_at};

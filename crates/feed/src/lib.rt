@@ -1,4 +1,6 @@
 // A load in parts, fed one more part of its text: rows 1 and 20.
+#![tactic(auto)]
+
 ghost use Rattle.std.specs.Prelude.{◌≡◌};
 ghost use Rattle.window.specs.Windows.{window_of};
 ghost use Rattle.parts.specs.Forms.{feed_as};

@@ -1,4 +1,6 @@
 // The last record of a load in parts, and row 14.
+#![tactic(auto)]
+
 ghost use Rattle.std.specs.Prelude.{◌≡◌};
 ghost use Rattle.window.specs.Windows.{window_of};
 ghost use Rattle.parts.specs.Forms.{end_as};

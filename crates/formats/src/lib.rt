@@ -1,4 +1,6 @@
 // The formats of texts, by value: what stands between lines, and where data lines are cut. The theorems across formats are here, too.
+#![tactic(auto)]
+
 ghost use Rattle.std.specs.Prelude.{◌≡◌, suc};
 ghost use Rattle.srec.specs.Lines.{is_end};
 ghost use Rattle.tape.specs.Lines.{is_gap};
@@ -15,7 +17,7 @@ const ROW: usize = 16;
 const LINE: usize = 24;
 
 // S-records, or a paper tape of an edition.
-#[derive(Drop)]
+#[derive(Clone, Copy)]
 pub enum Format {
     Records,
     Tape(Edition),

@@ -1,1 +1,2 @@
 // Several patches over a base: statements alone.
+#![tactic(auto)]

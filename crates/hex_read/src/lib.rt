@@ -1,4 +1,6 @@
 // Hex digits, and bytes as pairs of them, as they are read.
+#![tactic(auto)]
+
 mod table;
 
 ghost use Rattle.std.specs.Prelude.{◌≡◌, true, [], ◌∷◌, ◌*◌, ◌≤◌, ◌<◌, length, take};

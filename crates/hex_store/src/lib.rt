@@ -1,4 +1,6 @@
 // The bytes of pairs of hex digits, stored into a part that is lent for them.
+#![tactic(auto)]
+
 ghost use Rattle.std.specs.Prelude.{◌≡◌, ◌*◌, ◌≤◌, length};
 ghost use Rattle.hex_digits.specs.Digits.{bytes, first_bad};
 ghost use Rattle.hex_digits.specs.Tables.{digit_table};

@@ -1,4 +1,6 @@
 // The sum of the bytes of many pairs of hex digits, sixteen pairs at a time.
+#![tactic(auto)]
+
 ghost use Rattle.std.specs.Prelude.{◌≡◌, true, false, not, ◌%◌, ◌^◌, ◌≤◌, length, take, drop};
 ghost use Rattle.hex_digits.specs.Digits.{is_hex, bytes};
 ghost use Rattle.hex_digits.specs.Tables.{digit_table};

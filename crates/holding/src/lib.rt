@@ -1,4 +1,6 @@
 // The characters that a load in parts holds of a record that is not complete.
+#![tactic(auto)]
+
 ghost use Rattle.std.specs.Prelude.{◌≡◌, ◌++◌, map, ◌+◌, ◌^◌, ◌≤◌, ◌<◌, min, length, take};
 ghost use Rattle.text.specs.Lines.{front};
 ghost use Rattle.srec.specs.Lines.{is_end};
@@ -28,7 +30,7 @@ pub fn hold(line: &mut [u8], held: usize, chars: &[u8]) -> usize
 {
     let from = marks::smaller(held, session::HELD);
     let count = marks::smaller(chars.len(), session::HELD - from);
-    bytes::copy(&chars[..count], &mut line[from..]);
+    line[from..from + count].copy_from_slice(&chars[..count]);
     from + count
 }
 

@@ -1,4 +1,6 @@
 // The marked cells of an image laid over memory, and its marks joined to marks.
+#![tactic(auto)]
+
 ghost use Rattle.std.specs.Prelude.{◌≡◌, length};
 ghost use Rattle.window.specs.Images.{image, overlaid};
 ghost use Rattle.marks.specs.Forms.{flags, mark_bytes};
@@ -16,7 +18,7 @@ pub fn lay(memory: &mut [u8], bytes: &[u8], form: Form, marks: &[u8])
     while at < cells {
         let from = runs::next_marked(form, marks, cells, at);
         let to = runs::run_end(form, marks, cells, from, cells);
-        bytes::copy(&bytes[from..to], &mut memory[from..to]);
+        memory[from..to].copy_from_slice(&bytes[from..to]);
         at = to;
     }
 }

@@ -1,4 +1,6 @@
 // Where the lines of a text stand by their counts.
+#![tactic(auto)]
+
 ghost use Rattle.std.specs.Prelude.{◌≡◌, ◌+◌, ◌≤◌, length, drop};
 ghost use Rattle.hex_digits.specs.Tables.{digit_table};
 ghost use Rattle.text.specs.Lines.{front, lines};

@@ -1,4 +1,6 @@
 // Where the lines of a text stand, by looking for their ends.
+#![tactic(auto)]
+
 ghost use Rattle.std.specs.Prelude.{◌≡◌, true, ◌≤◌, length, drop};
 ghost use Rattle.text.specs.Lines.{front, lines};
 ghost use Rattle.text.specs.Finds.{leading, found};

@@ -1,1 +1,2 @@
 // Lists: laws that know nothing of records, windows or digits. No function runs.
+#![tactic(auto)]

@@ -1,4 +1,6 @@
 // Loads of texts and of tapes into a window with a mark byte a cell.
+#![tactic(auto)]
+
 ghost use Rattle.std.specs.Prelude.{◌≡◌};
 ghost use Rattle.window.specs.Windows.{window_of};
 ghost use Rattle.text.specs.Formats.{plan};

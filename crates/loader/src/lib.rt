@@ -1,4 +1,6 @@
 // The loader: a checking pass over the text that uses the lent marks, then a storing pass into the lent memory.
+#![tactic(auto)]
+
 ghost use Rattle.std.specs.Prelude.{◌≡◌};
 ghost use Rattle.window.specs.Windows.{window_of};
 ghost use Rattle.text.specs.Formats.{plan};

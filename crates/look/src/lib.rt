@@ -1,4 +1,6 @@
 // Looks at a patch over a base: which image has the cell at an address, and the run from there on.
+#![tactic(auto)]
+
 ghost use Rattle.std.specs.Prelude.{◌≡◌, true, ◌-◌, ◌≤◌, ◌<◌, length};
 ghost use Rattle.window.specs.Windows.{window_of};
 ghost use Rattle.marks.specs.Forms.{mark_bytes, plain};

@@ -1,4 +1,6 @@
 // Marks of one byte a cell: filled, and searched for bad ones.
+#![tactic(auto)]
+
 ghost use Rattle.std.specs.Prelude.{◌≡◌, eqb, ltb, length, replicate};
 ghost use Rattle.window.specs.Marks.{is_free};
 ghost use Rattle.window.specs.Windows.{first_bad_mark, row16};

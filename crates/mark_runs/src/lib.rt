@@ -1,4 +1,6 @@
 // Runs of marks of one byte a cell: whether none is set, where the next set one stands, and the next that is not.
+#![tactic(auto)]
+
 ghost use Rattle.std.specs.Prelude.{◌≡◌, true, ◌+◌, ◌*◌, ◌≤◌, ◌<◌, length, take, drop};
 ghost use Rattle.window.specs.Marks.{is_free};
 ghost use Rattle.window.specs.Walks.{unmarked, run};

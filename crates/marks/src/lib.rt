@@ -1,19 +1,21 @@
 // A window's marks: row 1, cleared, row 16, and counted. A function that reads them is told how many cells the window has and in which
 // form their marks are stored, and promises what it does by the flags that the marks show, one number a cell.
+#![tactic(auto)]
+
 ghost use Rattle.std.specs.Prelude.{◌≡◌, not, ◌^◌, ◌≤◌, min, length, replicate};
 ghost use Rattle.window.specs.Windows.{window_of};
 ghost use Rattle.marks.specs.Forms.{flags, mark_bytes, stored, row1_in, bad_mark, counted};
 
 // How the marks of a window are stored: a byte a cell, 0 or 1; or packed, a bit a cell, cell i in bit i modulo 8 of byte i / 8, and
 // zero bits behind the last cell's.
-#[derive(Drop)]
+#[derive(Clone, Copy)]
 pub enum Form {
     Bytes,
     Packed,
 }
 
 // Where row 16 finds a bad mark.
-#[derive(Drop)]
+#[derive(Clone, Copy)]
 pub enum Bad {
     At(usize),
     Nothing,

@@ -1,4 +1,6 @@
 // The merge of a patch into a base: cells, header and entry.
+#![tactic(auto)]
+
 ghost use Rattle.std.specs.Prelude.{◌≡◌, ◌||◌, ◌≤◌, length};
 ghost use Rattle.window.specs.Headers.{header_of, row15};
 ghost use Rattle.window.specs.Plans.{is_present};

@@ -1,4 +1,6 @@
 // A merge for C. include/srec.h declares it.
+#![tactic(auto)]
+
 ghost use Rattle.std.specs.Prelude.{◌≡◌};
 ghost use Rattle.overlay.specs.Merges.{lent, merge_answer, memory_after, marks_after};
 ghost use Rattle.c_answers.specs.Answers.{entry_for};

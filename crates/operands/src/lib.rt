@@ -1,4 +1,6 @@
 // The parts of an address expression: numbers, names, closing brackets, and two parts under a sign.
+#![tactic(auto)]
+
 ghost use Rattle.std.specs.Prelude.{◌≡◌, [], ◌≤◌, length};
 ghost use Rattle.symbol_table.specs.Symbols.{symbols_in};
 ghost use Rattle.operands.specs.Reading.{number_at, name_at, is_sign};
@@ -16,7 +18,7 @@ const DIGITS: usize = 8;
 const MOST: u32 = 4_294_967_295;
 
 // What a part of an expression is worth, its row (25, 26, 27, or 0 for none), and the place behind it; 0 behind what has not the form.
-#[derive(Drop)]
+#[derive(Clone, Copy)]
 pub struct Part {
     pub row: u8,
     pub value: u32,
@@ -24,7 +26,7 @@ pub struct Part {
 }
 
 // What an expression is worth, and its row; the value of a refused one is 0.
-#[derive(Drop)]
+#[derive(Clone, Copy)]
 pub struct Worth {
     pub row: u8,
     pub value: u32,

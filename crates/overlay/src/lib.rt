@@ -1,4 +1,6 @@
 // A patch over a base, in windows of one base and length: what the calls answer, and their rows.
+#![tactic(auto)]
+
 ghost use Rattle.std.specs.Prelude.{◌≡◌, not};
 ghost use Rattle.window.specs.Windows.{window_of};
 ghost use Rattle.overlay.specs.Refusals.{row1_both_in, bad_of, first_row};
@@ -8,7 +10,7 @@ use window::{Entry, Header, Refusal};
 
 // Which image a look shows: Req 07's 'word saying which'. A cell comes from the patch where that is marked, else from the base. For a
 // refused look it is the refusal, with the row's number, and the place for row 16.
-#[derive(Drop)]
+#[derive(Clone, Copy)]
 pub enum Source {
     Patch,
     Base,
@@ -18,7 +20,7 @@ pub enum Source {
 
 // The answer of a merge: the merged image's header and entry. An accepted merge has a refusal of zeros; a refused one has an
 // empty header and no entry.
-#[derive(Drop)]
+#[derive(Clone, Copy)]
 pub struct Merged {
     pub refusal: Refusal,
     pub header: Header,

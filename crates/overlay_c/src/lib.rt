@@ -1,4 +1,6 @@
 // A look for the benchmark in C. include/srec.h does not declare it.
+#![tactic(auto)]
+
 ghost use Rattle.std.specs.Prelude.{◌≡◌, length};
 ghost use Rattle.window.specs.Windows.{window_of};
 ghost use Rattle.overlay.specs.Looks.{look_part};

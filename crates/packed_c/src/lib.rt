@@ -1,4 +1,6 @@
 // A load and a write with packed marks for the benchmark in C. include/srec.h does not declare them: C callers keep a mark byte a cell.
+#![tactic(auto)]
+
 ghost use Rattle.std.specs.Prelude.{◌≡◌, length};
 ghost use Rattle.window.specs.declared.Entry.TheVariants.{Present};
 ghost use Rattle.window.specs.Windows.{window_of};

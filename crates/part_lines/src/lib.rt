@@ -1,4 +1,6 @@
 // The lines of a part of a text whose ends stand in it.
+#![tactic(auto)]
+
 ghost use Rattle.std.specs.Prelude.{◌≡◌, ◌+◌, ◌-◌, ◌≤◌, length, drop};
 ghost use Rattle.hex_digits.specs.Tables.{digit_table};
 ghost use Rattle.parts.specs.Parts.{stage, fed};
@@ -16,7 +18,7 @@ use window::Refusal;
 
 // What the lines of a part come to whose ends stand in it: a refusal; or where the characters behind the last line end begin, and the
 // records so far.
-#[derive(Drop)]
+#[derive(Clone, Copy)]
 pub enum Rest {
     Refused(Refusal),
     From(usize, Tally),

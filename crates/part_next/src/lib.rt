@@ -1,4 +1,6 @@
 // The next line of a part whose end stands in it, and what it does.
+#![tactic(auto)]
+
 ghost use Rattle.std.specs.Prelude.{◌≡◌, ◌≤◌, length};
 ghost use Rattle.hex_digits.specs.Tables.{digit_table};
 ghost use Rattle.part_next.specs.Takes.{next_in, Roomy};

@@ -1,4 +1,6 @@
 // A load in parts for C: the state as a struct of numbers. include/srec.h declares it.
+#![tactic(auto)]
+
 ghost use Rattle.std.specs.Prelude.{◌≡◌};
 ghost use Rattle.window.specs.Windows.{window_of};
 ghost use Rattle.marks.specs.declared.Form.TheVariants.{Bytes};
@@ -17,7 +19,7 @@ use window::Refusal;
 
 // The state of a load in parts with a mark byte a cell: `struct srec_parts`.
 #[repr(C)]
-#[derive(Drop)]
+#[derive(Clone, Copy)]
 pub struct Parts {
     pub reason: u32,
     pub want: u8,
@@ -40,7 +42,7 @@ pub struct Parts {
 
 // What ended a load: its answer, and the state behind it: `struct srec_ended`.
 #[repr(C)]
-#[derive(Drop)]
+#[derive(Clone, Copy)]
 pub struct Last {
     pub loaded: Answer,
     pub parts: Parts,

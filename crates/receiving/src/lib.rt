@@ -1,4 +1,6 @@
 // Cells as a chip or a whole memory receives them: all marks are written, and the bytes of unmarked cells stay.
+#![tactic(auto)]
+
 ghost use Rattle.std.specs.Prelude.{◌≡◌, false, ◌≤◌, length, take};
 ghost use Rattle.window.specs.Windows.{row16};
 ghost use Rattle.window.specs.Images.{image, overlaid};
@@ -34,7 +36,7 @@ fn held(flags: &[u8], size: usize) -> [u8; 64]
     ensures { take size result ≡ take size flags.now }
 {
     let mut bytes = [0u8; 64];
-    bytes::copy(&flags[..size], &mut bytes);
+    bytes[..size].copy_from_slice(&flags[..size]);
     bytes
 }
 
@@ -45,9 +47,9 @@ fn receive(memory: &mut [u8], marks: &mut [u8], cells: &[u8], flags: &[u8], size
     ensures marks { marks.new ≡ take size flags.now }
 {
     let new = blended(memory, cells, flags, size);
-    bytes::copy(&new[..size], memory);
+    memory.copy_from_slice(&new[..size]);
     let kept = held(flags, size);
-    bytes::copy(&kept[..size], marks);
+    marks.copy_from_slice(&kept[..size]);
 }
 
 // Receives a row of one chip: as many cells as the part that is lent has. All marks are written, and the bytes of unmarked cells stay. A

@@ -1,5 +1,7 @@
 // Cells of an image as rows of sixteen, one row a memory chip. Whole rows go through numbers of two or four cells: so the compiler takes
 // sixteen at once.
+#![tactic(auto)]
+
 ghost use Rattle.std.specs.Prelude.{◌+◌, ◌*◌, ◌/◌, ◌%◌, ◌≤◌, ◌<◌, [], length, get_or};
 ghost use Rattle.chips.specs.Promises.{Count, Filled};
 ghost use Rattle.rows.specs.Rows.{RowOf, RowsOf, WordsOf, LanesOf};

@@ -1,4 +1,6 @@
 // A window's marked cells: whether one is marked, the next one, and where a run of them ends.
+#![tactic(auto)]
+
 ghost use Rattle.std.specs.Prelude.{◌≡◌, not, ◌+◌, ◌≤◌, ◌<◌, eqb, length, get_or, drop};
 ghost use Rattle.window.specs.Walks.{unmarked, run_on};
 ghost use Rattle.marks.specs.Forms.{flags, mark_bytes};

@@ -1,4 +1,6 @@
 // The state of a load in parts between two calls: row 1 of a later call, a refusal, and the answer.
+#![tactic(auto)]
+
 ghost use Rattle.std.specs.Prelude.{◌≡◌, ◌<◌, length, take, replicate};
 ghost use Rattle.window.specs.Windows.{window_of};
 ghost use Rattle.window.specs.Headers.{header_of};
@@ -25,7 +27,7 @@ const MOST_HEADER: usize = 252;
 // `held` characters of the record that is not complete, at most 515, which begins at `place`, and room for a line end; `header` has the
 // first `tally.head` bytes of the header, at most 252. A line end among the held characters counts as NUL. What stands behind
 // those lengths, an entry before a terminator, and what the refusal has beside the reason 0 may be anything.
-#[derive(Drop)]
+#[derive(Clone, Copy)]
 pub struct Session {
     pub form: Form,
     pub refusal: Refusal,

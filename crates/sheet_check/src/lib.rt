@@ -1,4 +1,6 @@
 // The checking pass over a patch sheet: rows 25 to 27 of its fields, and rows 12 and 13 of its bytes.
+#![tactic(auto)]
+
 ghost use Rattle.std.specs.Prelude.{◌≡◌, length, replicate};
 ghost use Rattle.window.specs.Images.{blank};
 ghost use Rattle.window.specs.Plans.{placed};
@@ -11,7 +13,7 @@ use sheet_fields::Pair;
 use window::Refusal;
 
 // What checking a sheet finds.
-#[derive(Drop)]
+#[derive(Clone, Copy)]
 pub enum Checked {
     Refused(Refusal),
     Accepted { records: usize, cells: usize },

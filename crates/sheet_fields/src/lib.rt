@@ -1,4 +1,6 @@
 // The fields of a patch sheet, two at a time: an address, and the bytes for it.
+#![tactic(auto)]
+
 ghost use Rattle.std.specs.Prelude.{◌≡◌, ◌+◌, ◌≤◌, ◌<◌, length, get_or};
 ghost use Rattle.symbol_table.specs.Symbols.{symbols_in};
 ghost use Rattle.sheet_fields.specs.declared.Pair.TheVariants.{Bad};
@@ -14,7 +16,7 @@ const BYTES: u8 = 2;
 
 // A pair of fields: none is left; it is refused by a row at its first or second field; or the bytes of the sheet from
 // one place to another go to an address, by the field at `place`.
-#[derive(Drop)]
+#[derive(Clone, Copy)]
 pub enum Pair {
     End,
     Bad {

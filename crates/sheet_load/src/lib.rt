@@ -1,4 +1,6 @@
 // The load of a patch sheet, with the symbols of a text's symbol block.
+#![tactic(auto)]
+
 ghost use Rattle.std.specs.Prelude.{◌≡◌};
 ghost use Rattle.window.specs.Windows.{window_of};
 ghost use Rattle.text.specs.Load.{load_answer, memory_after, marks_after};

@@ -1,1 +1,2 @@
 // The spans of patch sheets: statements alone.
+#![tactic(auto)]

@@ -1,4 +1,6 @@
 // The storing pass over a patch sheet that was accepted.
+#![tactic(auto)]
+
 ghost use Rattle.std.specs.Prelude.{◌≡◌, false, ◌-◌, length};
 ghost use Rattle.lists.specs.Lists.{over};
 ghost use Rattle.window.specs.Images.{blank};
@@ -20,7 +22,7 @@ fn store_bytes(base: usize, memory: &mut [u8], address: usize, bytes: &[u8])
     }
     let from = address - base;
     let to = from + count;
-    bytes::copy(bytes, &mut memory[from..to]);
+    memory[from..to].copy_from_slice(bytes);
 }
 
 // Stores the bytes of every pair of a sheet that was accepted.

@@ -1,5 +1,7 @@
 // The span of the cells that a patch sheet addresses, with the symbols of a text's symbol block. What is surveyed is what a load of the
 // sheet reads: the pairs up to the first that a row other than 12 and 13 refuses.
+#![tactic(auto)]
+
 ghost use Rattle.std.specs.Prelude.{◌≡◌};
 ghost use Rattle.symbol_table.specs.Symbols.{symbols_in};
 ghost use Rattle.sheets.specs.Sheets.{sheet_plan};

@@ -1,4 +1,6 @@
 // What the writer has to know of a window before it writes: the runs of marked cells, how many there are, and the width.
+#![tactic(auto)]
+
 ghost use Rattle.std.specs.Prelude.{◌≡◌, true, List, ℕ, suc, ◌+◌, ◌^◌, ◌≤◌, max, length, drop};
 ghost use Rattle.window.specs.Windows.{window_of};
 ghost use Rattle.window.specs.Cells.{shown};
@@ -16,7 +18,7 @@ use marks::Form;
 pub const ROW: usize = 16;
 
 // How many data lines and cells a text has, and its largest address, entry included.
-#[derive(Drop)]
+#[derive(Clone, Copy)]
 pub struct Size {
     pub records: usize,
     pub cells: usize,

@@ -1,9 +1,11 @@
 // The span of the cells that data records address, and the first record that addresses a cell.
+#![tactic(auto)]
+
 ghost use Rattle.std.specs.Prelude.{◌≡◌, ◌+◌, ◌^◌, ◌≤◌, min, max};
 ghost use Rattle.spans.specs.Spans.{no_span, widened, nowhere};
 
 // The lowest and the highest address of some cells; zeros where there is no cell.
-#[derive(Drop)]
+#[derive(Clone, Copy)]
 pub struct Span {
     pub any: bool,
     pub lowest: usize,
@@ -11,7 +13,7 @@ pub struct Span {
 }
 
 // Where a cell's byte stands: the number of its record, from 1, the record's place in the text, and the byte; zeros for none.
-#[derive(Drop)]
+#[derive(Clone, Copy)]
 pub struct Origin {
     pub ordinal: usize,
     pub place: usize,

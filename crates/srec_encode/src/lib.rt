@@ -1,4 +1,6 @@
 // One record, written as a line of the canonical text.
+#![tactic(auto)]
+
 ghost use Rattle.std.specs.Prelude.{◌≡◌, [], ◌∷◌, ◌++◌, ◌+◌, ◌*◌, ◌≤◌, length};
 ghost use Rattle.hex_digits.specs.Digits.{digits_of};
 ghost use Rattle.hex_digits.specs.Tables.{pair_table};

@@ -1,4 +1,6 @@
 // The fields of a record: its type, the address bytes of a type, and whether its count fits.
+#![tactic(auto)]
+
 ghost use Rattle.std.specs.Prelude.{◌≡◌, true, not, ◌-◌, ◌≤◌, ◌<◌, length};
 ghost use Rattle.hex_digits.specs.Tables.{digit_table};
 ghost use Rattle.srec.specs.Lines.{is_end};
@@ -14,7 +16,7 @@ const LEAST_CHARS: usize = 4;
 
 // What a record says: its type character, address and number of data bytes; or the row that refuses it, where, and for row 7 the
 // checksum that would have been right (0 otherwise).
-#[derive(Drop)]
+#[derive(Clone, Copy)]
 pub enum Record {
     Good(u8, u32, usize),
     Bad(u32, usize, u8),

@@ -1,4 +1,6 @@
 // One record read that no row refuses.
+#![tactic(auto)]
+
 ghost use Rattle.std.specs.Prelude.{◌≡◌, true, ◌+◌, ◌*◌, ◌%◌, ◌≤◌, ◌<◌, length};
 ghost use Rattle.hex_digits.specs.Tables.{digit_table};
 ghost use Rattle.srec.specs.Reading.{read};
@@ -15,7 +17,7 @@ const BLOCK_END: usize = 36;
 
 // What one walk over a record's digits gathers: their sum with the count and the checksum, at least NONE where one is no digit, and the
 // address.
-#[derive(Drop)]
+#[derive(Clone, Copy)]
 struct Gathered {
     sum: u32,
     address: u32,

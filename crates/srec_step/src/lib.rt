@@ -1,4 +1,6 @@
 // What a record does: it is read, and judged against what came before it.
+#![tactic(auto)]
+
 ghost use Rattle.std.specs.Prelude.{◌≡◌, [], ◌+◌, ◌^◌, ◌<◌, length};
 ghost use Rattle.hex_digits.specs.Tables.{digit_table};
 ghost use Rattle.text.specs.Steps.{state_with, as_step, SureIs};

@@ -1,4 +1,6 @@
 // The canonical text: its length, and its pieces in order, written into a lent output.
+#![tactic(auto)]
+
 ghost use Rattle.std.specs.Prelude.{◌≡◌, ◌+◌, ◌^◌, ◌≤◌, length};
 ghost use Rattle.window.specs.declared.Entry.TheVariants.{Present};
 ghost use Rattle.window.specs.Windows.{window_of};

@@ -1,4 +1,6 @@
 // The canonical text of a window, written into a lent output, or the row that refuses that.
+#![tactic(auto)]
+
 ghost use Rattle.std.specs.Prelude.{◌≡◌, length};
 ghost use Rattle.window.specs.Windows.{window_of};
 ghost use Rattle.forms.specs.Calls.{write_in};

@@ -1,4 +1,6 @@
 // The storing pass of a load, over a text that was checked: the data of every line into memory.
+#![tactic(auto)]
+
 ghost use Rattle.std.specs.Prelude.{◌≡◌, length};
 ghost use Rattle.hex_digits.specs.Tables.{digit_table};
 ghost use Rattle.window.specs.Images.{blank};

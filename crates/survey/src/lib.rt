@@ -1,5 +1,7 @@
 // The span of the cells that a text's data records address, and the first record that addresses one cell. What is surveyed is what a load
 // reads that rows 12 and 13 let pass: the records up to the first that another row refuses.
+#![tactic(auto)]
+
 ghost use Rattle.std.specs.Prelude.{◌≡◌, [], ◌∷◌, length};
 ghost use Rattle.hex_digits.specs.Tables.{digit_table};
 ghost use Rattle.text.specs.Formats.{plan};
@@ -13,14 +15,14 @@ use spans::{Origin, Span};
 use text::{Step, Taken};
 
 // The span of a text, and the origin of one cell.
-#[derive(Drop)]
+#[derive(Clone, Copy)]
 pub struct Survey {
     pub span: Span,
     pub origin: Origin,
 }
 
 // A data line without its characters: its number, its place, its address and how many data bytes it has.
-#[derive(Drop)]
+#[derive(Clone, Copy)]
 struct Head {
     ordinal: usize,
     place: usize,

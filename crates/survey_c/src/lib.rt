@@ -1,4 +1,6 @@
 // The span of a text's cells, and the first record that addresses a cell, for C. include/srec.h declares them.
+#![tactic(auto)]
+
 ghost use Rattle.std.specs.Prelude.{◌≡◌};
 ghost use Rattle.text.specs.Formats.{plan};
 ghost use Rattle.formats.specs.Choices.{format_of};
@@ -10,7 +12,7 @@ use c_answers::Reach;
 
 // A record that addresses a cell: `struct srec_origin`.
 #[repr(C)]
-#[derive(Drop)]
+#[derive(Clone, Copy)]
 pub struct Source {
     pub ordinal: usize,
     pub place: usize,

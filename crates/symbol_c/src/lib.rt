@@ -1,4 +1,6 @@
 // Texts with a symbol block, and patch sheets, for C. include/srec.h declares them.
+#![tactic(auto)]
+
 ghost use Rattle.std.specs.Prelude.{◌≡◌};
 ghost use Rattle.window.specs.Windows.{window_of};
 ghost use Rattle.text.specs.Load.{load_answer, memory_after, marks_after};

@@ -1,4 +1,6 @@
 // One line of a symbol block: `$$` and a name, pairs of a name and a number, or a bare `$$`.
+#![tactic(auto)]
+
 ghost use Rattle.std.specs.Prelude.{◌≡◌, ◌≤◌, ◌<◌, length};
 ghost use Rattle.symbol_lines.specs.Lines.{tight, is_last, is_title, is_pair, pairs_of};
 
@@ -8,7 +10,7 @@ use text::Found;
 const PAIRS: usize = 4;
 
 // Whether a line is one of pairs, and how many it has.
-#[derive(Drop)]
+#[derive(Clone, Copy)]
 pub struct Pairs {
     pub good: bool,
     pub count: usize,

@@ -1,4 +1,6 @@
 // The load of a text of S-records behind a symbol block.
+#![tactic(auto)]
+
 ghost use Rattle.std.specs.Prelude.{◌≡◌, length, replicate};
 ghost use Rattle.window.specs.Windows.{window_of};
 ghost use Rattle.window.specs.Plans.Outcome.{refused};

@@ -1,4 +1,6 @@
 // The words and lines of a text, and a name looked up in a lent table: the words of a symbol block, names and numbers in turn.
+#![tactic(auto)]
+
 ghost use Rattle.std.specs.Prelude.{◌≡◌, ◌≤◌, length, drop};
 ghost use Rattle.text.specs.Lines.{lines};
 ghost use Rattle.text.specs.Finds.{found};
@@ -9,7 +11,7 @@ use text::Found;
 use words::Class;
 
 // What a name stands for, if it is known; otherwise 0.
-#[derive(Drop)]
+#[derive(Clone, Copy)]
 pub struct Sought {
     pub known: bool,
     pub value: u32,

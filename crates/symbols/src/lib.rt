@@ -1,4 +1,6 @@
 // The symbol block that a text begins with: its lines in order.
+#![tactic(auto)]
+
 ghost use Rattle.std.specs.Prelude.{◌≡◌, ◌+◌, ◌≤◌, ◌<◌, length, drop};
 ghost use Rattle.text.specs.Lines.{lines};
 ghost use Rattle.words.specs.Words.{is_break};
@@ -14,7 +16,7 @@ const SYMBOLS: usize = 1024;
 
 // A symbol block is refused, by a row, a line's number and a place; or its table stands from one place to another,
 // and the bare `$$` behind it.
-#[derive(Drop)]
+#[derive(Clone, Copy)]
 pub enum Block {
     Bad {
         reason: u32,

@@ -1,4 +1,6 @@
 // One part of a load in parts: its lines, and what is left of it.
+#![tactic(auto)]
+
 ghost use Rattle.std.specs.Prelude.{◌≡◌, false, [], ◌+◌, ◌-◌, ◌^◌, ◌<◌, length};
 ghost use Rattle.window.specs.Windows.{window_of};
 ghost use Rattle.text.specs.Lines.{front};

@@ -1,4 +1,6 @@
 // What the records of a load in parts say that were read so far.
+#![tactic(auto)]
+
 ghost use Rattle.std.specs.Prelude.{◌≡◌, false};
 ghost use Rattle.window.specs.declared.Entry.TheVariants.{Absent};
 
@@ -6,7 +8,7 @@ use text::State;
 use window::{Entry, Refusal};
 
 // What the records read so far say: their numbers, the length of the header, and once a terminator was read its entry.
-#[derive(Drop)]
+#[derive(Clone, Copy)]
 pub struct Tally {
     pub state: State,
     pub head: usize,
@@ -15,7 +17,7 @@ pub struct Tally {
 }
 
 // What one line comes to: a refusal, or the records with it.
-#[derive(Drop)]
+#[derive(Clone, Copy)]
 pub enum Turn {
     Refused(Refusal),
     Next(Tally),

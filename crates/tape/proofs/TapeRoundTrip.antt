@@ -26,10 +26,10 @@ header_in_lem (bad f) h = refl
 header_in_lem (good bs) h = by_test (is_last bs) (λ e. rw e refl) (λ e. rw e refl)
 
 -- a line has no entry
-entry_in : (r : Read) → entry_in (carried r) Absent ≡ Absent
+entry_in_lem : (r : Read) → entry_in (carried r) Absent ≡ Absent
 unfolding carries
-entry_in (bad f) = refl
-entry_in (good bs) = by_test (is_last bs) (λ e. rw e refl) (λ e. rw e refl)
+entry_in_lem (bad f) = refl
+entry_in_lem (good bs) = by_test (is_last bs) (λ e. rw e refl) (λ e. rw e refl)
 
 -- so lines have no header
 no_header : (ls : List Line) → header_among (λ chars. carried (read chars)) ls ≡ []
@@ -39,7 +39,7 @@ no_header (l ∷ ls) = header_in_lem (read l.chars) (header_among (λ chars. car
 -- and no entry
 no_entry : (ls : List Line) → entry_among (λ chars. carried (read chars)) ls ≡ Absent
 no_entry [] = refl
-no_entry (l ∷ ls) = rw (no_entry ls) (entry_in (read l.chars))
+no_entry (l ∷ ls) = rw (no_entry ls) (entry_in_lem (read l.chars))
 
 -- equal tapes are written exactly where the cells are equal
 pub equal_cells : EqualCells

@@ -1,4 +1,6 @@
 // One line of a tape, written as a line of the canonical tape.
+#![tactic(auto)]
+
 ghost use Rattle.std.specs.Prelude.{◌≡◌, [], ◌+◌, ◌*◌, ◌≤◌, length};
 ghost use Rattle.lists.specs.Lists.{over};
 ghost use Rattle.hex_digits.specs.Numbers.{in_bytes};

@@ -1,4 +1,6 @@
 // One line of a tape read: rows 3 to 6, or only whether rows 3 to 7 let it pass.
+#![tactic(auto)]
+
 ghost use Rattle.std.specs.Prelude.{◌≡◌, ◌+◌, ◌^◌, ◌<◌, length};
 ghost use Rattle.hex_digits.specs.Tables.{digit_table};
 ghost use Rattle.tape.specs.Reading.{read};
@@ -15,7 +17,7 @@ const LEAST_CHARS: usize = 3;
 const NO_DATA: usize = 11;
 
 // What a line says: its address, or in the last line its number, and its length field; or the row that refuses it, and where.
-#[derive(Drop)]
+#[derive(Clone, Copy)]
 pub enum Line {
     Good(u32, usize),
     Bad(u32, usize),

@@ -1,4 +1,6 @@
 // The canonical tape: the cells that it can hold, its length, and its lines, written into a lent output.
+#![tactic(auto)]
+
 ghost use Rattle.std.specs.Prelude.{◌≡◌, ◌+◌, ◌^◌, ◌≤◌, length};
 ghost use Rattle.lists.specs.Lists.{over};
 ghost use Rattle.window.specs.Windows.{window_of};

@@ -99,11 +99,11 @@ small_of top (c ∷ cs) t A B (inr m) =
     small_of top cs (and_yes (ltb c.byte 256) (all_small top cs) k.1).1 A B m
 
 -- truth values that pass the test are equal
-same_test : (a b : Bool) → T (same_test a b) → a ≡ b
-same_test true true t = refl
-same_test true false t = absurd t
-same_test false true t = absurd t
-same_test false false t = refl
+same_test_lem : (a b : Bool) → T (same_test a b) → a ≡ b
+same_test_lem true true t = refl
+same_test_lem true false t = absurd t
+same_test_lem false true t = absurd t
+same_test_lem false false t = refl
 
 -- cells, header and entry that pass the test can be stored
 pub storable_of : (L : Limits) (cs : List Cell) (h : List ℕ) (e : Entry) → T (is_storable L cs h e) → Storable L cs h e
@@ -120,5 +120,5 @@ storable_of L cs h e t =
       rising = rising_of 0 cs c.0;
       small = small_of L.top cs c.1;
       header = record { bytes = bytes_of h a.0; short = leb→le (length h) L.most a.1 };
-      entry = record { present = same_test (is_present e) L.started z.0; small = ltb→lt (address_of e) (2 ^ 32) z.1 };
+      entry = record { present = same_test_lem (is_present e) L.started z.0; small = ltb→lt (address_of e) (2 ^ 32) z.1 };
     }

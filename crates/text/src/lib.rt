@@ -1,4 +1,6 @@
 // What a walk over the lines of a text keeps, what finding a line and a step answer, and the answers of a write.
+#![tactic(auto)]
+
 ghost use Rattle.std.specs.Prelude.{◌≡◌, ◌+◌, ◌^◌, ◌<◌, []};
 ghost use Rattle.window.specs.Plans.{refusal};
 ghost use Rattle.text.specs.Scan.{start as startScan, more, more_data};
@@ -9,14 +11,14 @@ ghost use Rattle.text.specs.Write.WriteOutcome.{declined};
 use window::{Entry, Written};
 
 // Where a line stands: from its first character to behind its last.
-#[derive(Drop)]
+#[derive(Clone, Copy)]
 pub enum Found {
     At { from: usize, to: usize },
     Nothing,
 }
 
 // What was read so far: lines, data lines, and their data bytes.
-#[derive(Drop)]
+#[derive(Clone, Copy)]
 pub struct State {
     pub number: usize,
     pub records: usize,
@@ -26,7 +28,7 @@ pub struct State {
 // What one line does: a row refuses it, at a place of the text and with the checksum that would have been right (0 for none); or it
 // is passed; or it has so many data bytes for an address; or it ends the text, with an entry or none. Those that do not refuse it
 // have the state behind the line.
-#[derive(Drop)]
+#[derive(Clone, Copy)]
 pub enum Step {
     Refuse(u32, usize, u8),
     Pass(State),
@@ -35,14 +37,14 @@ pub enum Step {
 }
 
 // The step of a line, or no answer: what a fast way gives that may only say yes.
-#[derive(Drop)]
+#[derive(Clone, Copy)]
 pub enum Sure {
     Yes(Step),
     No,
 }
 
 // The next line of a text: where it stands, and what it does; or there is none.
-#[derive(Drop)]
+#[derive(Clone, Copy)]
 pub enum Taken {
     Line { from: usize, to: usize, step: Step },
     Nothing,

@@ -1,4 +1,6 @@
 // The whole answers of a load and of a write for C, in the format that a number names. include/srec.h declares them.
+#![tactic(auto)]
+
 ghost use Rattle.std.specs.Prelude.{◌≡◌, length};
 ghost use Rattle.window.specs.Windows.{window_of};
 ghost use Rattle.text.specs.Formats.{plan};

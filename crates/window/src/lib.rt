@@ -1,4 +1,6 @@
 // A window of lent memory: what is refused, and what a load and a write answer.
+#![tactic(auto)]
+
 ghost use Rattle.std.specs.Prelude.{◌≡◌, [], ◌≤◌, length};
 ghost use Rattle.window.specs.Plans.{refusal_with, refusal};
 ghost use Rattle.window.specs.Headers.{header_of};
@@ -8,7 +10,7 @@ ghost use Rattle.window.specs.Headers.{header_of};
 // place is an index into the text. A write's ordinal is 0, and its place the index of a mark (row 16, and row 11 of a tape), the
 // length needed (row 17), or 0. For row 7 of S-records `want` is the checksum that would have been right, which may be 0; for every other
 // reason, and for none, it is 0.
-#[derive(Drop)]
+#[derive(Clone, Copy)]
 pub struct Refusal {
     pub reason: u32,
     pub ordinal: usize,
@@ -17,14 +19,14 @@ pub struct Refusal {
 }
 
 // The address where a program starts, if an image has one.
-#[derive(Drop)]
+#[derive(Clone, Copy)]
 pub enum Entry {
     Absent,
     Present(u32),
 }
 
 // The header's bytes; those from `len` on are zero.
-#[derive(Drop)]
+#[derive(Clone, Copy)]
 pub struct Header {
     pub len: usize,
     pub bytes: [u8; 252],
@@ -32,7 +34,7 @@ pub struct Header {
 
 // The answer of a load: `records` counts the data records, `cells` their data bytes. An accepted load has a refusal of
 // zeros; a refused one has an empty header, no entry, and both counts 0.
-#[derive(Drop)]
+#[derive(Clone, Copy)]
 pub struct Loaded {
     pub refusal: Refusal,
     pub header: Header,
@@ -42,7 +44,7 @@ pub struct Loaded {
 }
 
 // The answer of a write: the text's length, or a refusal and length 0.
-#[derive(Drop)]
+#[derive(Clone, Copy)]
 pub struct Written {
     pub refusal: Refusal,
     pub length: usize,
@@ -83,7 +85,7 @@ pub fn header_from(bytes: &[u8]) -> Header
     ensures { result ≡ header_of bytes.now }
 {
     let mut clean = [0u8; 252];
-    bytes::copy(bytes, &mut clean);
+    clean[..bytes.len()].copy_from_slice(bytes);
     Header {
         len: bytes.len(),
         bytes: clean,

@@ -1,4 +1,6 @@
 // Names and numbers as they stand in a text, and classes of characters.
+#![tactic(auto)]
+
 ghost use Rattle.std.specs.Prelude.{◌≡◌, ◌≤◌, ◌<◌, length, drop};
 ghost use Rattle.words.specs.Words.{is_letter, is_alnum, is_blank, is_break, holds, counted, number_in, is_name, is_number, same};
 
@@ -10,7 +12,7 @@ const DIGITS: usize = 8;
 const NUMBER: usize = 1 + DIGITS;
 
 // A class of characters: letters and digits; hex digits; space, CR and LF; all but those three; CR and LF; all but those two.
-#[derive(Drop)]
+#[derive(Clone, Copy)]
 pub enum Class {
     Alnum,
     Hex,

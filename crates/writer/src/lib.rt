@@ -1,4 +1,6 @@
 // The canonical text of a window in the format that is told, and the room that it needs.
+#![tactic(auto)]
+
 ghost use Rattle.std.specs.Prelude.{◌≡◌, length};
 ghost use Rattle.window.specs.Windows.{window_of};
 ghost use Rattle.text.specs.Write.{write, write_answer, output_after};

@@ -7,5 +7,5 @@ use Rattle.answers.proofs.accepted_answer.Tie as tie
 returns : tie.Need-returns
 returns c = rw c.refuse.ensures refl
 
-pub accepted-answer-spec : {M : Type 1} → statement M
-accepted-answer-spec = tie.close (tie.spec (λ c κs. search rules) returns)
+pub accepted_answer_spec : {M : Type 1} → statement M
+accepted_answer_spec = tie.close (tie.spec (λ c κs. search rules) returns)

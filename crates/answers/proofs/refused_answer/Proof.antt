@@ -7,5 +7,5 @@ use Rattle.answers.proofs.refused_answer.Tie as tie
 returns : tie.Need-returns
 returns c = rw c.no_header.ensures refl
 
-pub refused-answer-spec : {M : Type 1} → statement M
-refused-answer-spec = tie.close (tie.spec (λ c κs. search rules) returns)
+pub refused_answer_spec : {M : Type 1} → statement M
+refused_answer_spec = tie.close (tie.spec (λ c κs. search rules) returns)

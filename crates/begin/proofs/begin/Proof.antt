@@ -10,10 +10,10 @@ use Rattle.begin.proofs.begin.Tie as tie
 returns : tie.Need-returns
 returns c =
     let at_begin = c.before.before in
-    let a = at_begin.before.before.before.before.args in
+    let a = at_begin.args in
     let w = begun_bytes (window_of a.base a.memory.now a.marks.now) in
-    let e = at_begin.begin-as.ensures in
+    let e = at_begin.begin_as.ensures in
     (e.0 ∙ ap (λ (x : Stage). x.status) w, (e.1.0 ∙ ap (λ (x : Stage). x.marks) w, e.1.1))
 
-pub begin-spec : {M : Type 1} → statement M
-begin-spec = tie.close (tie.spec (λ c κs. search rules) (λ c. search rules) returns)
+pub begin_spec : {M : Type 1} → statement M
+begin_spec = tie.close (tie.spec (λ c κs. search rules) (λ c. search rules) returns)

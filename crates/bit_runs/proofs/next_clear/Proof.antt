@@ -12,5 +12,5 @@ returns c =
     let a = c.before.before.args in
     c.next_bit.ensures ∙ rw (run_flipped a.marks.now a.from (a.to - a.from) (omega arith))
 
-pub next-clear-spec : {M : Type 1} → statement M
-next-clear-spec = tie.close (tie.spec (λ c κs. search rules) returns)
+pub next_clear_spec : {M : Type 1} → statement M
+next_clear_spec = tie.close (tie.spec (λ c κs. search rules) returns)

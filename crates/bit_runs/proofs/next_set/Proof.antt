@@ -7,5 +7,5 @@ use Rattle.bit_runs.proofs.next_set.Tie as tie
 returns : tie.Need-returns
 returns c = rw (flipped_none c.before.before.args.marks.now) at c.next_bit.ensures
 
-pub next-set-spec : {M : Type 1} → statement M
-next-set-spec = tie.close (tie.spec (λ c κs. search rules) returns)
+pub next_set_spec : {M : Type 1} → statement M
+next_set_spec = tie.close (tie.spec (λ c κs. search rules) returns)

@@ -5,18 +5,18 @@ use borrow.Author.Rules.{rules}
 use Rattle.bits.proofs.clear_spare.Statement.{statement}
 use Rattle.bits.proofs.clear_spare.Tie as tie
 
-returns : tie.Need-returns
+returns : tie.Need-returns-then-low-eq0
 returns c =
     let s = c.before.before in
-    no_spare s.args.cells s.args.marks.now (λ k. omega (arith, c.before.slice-known.given k)) s.requires c.if1.true
+    no_spare s.args.cells s.args.marks.now (λ k. omega (arith, c.before.slice_known-1.given k)) s.requires c.if-low-eq0.true
 
-returns-2 : tie.Need-returns-2
+returns-2 : tie.Need-returns
 returns-2 c =
     let e = c.before.before in
     let s = e.before.before in
-    rw c.before.mask.ensures
-    (spare_cleared s.args.cells s.args.marks.now (λ k. omega (arith, e.before.slice-known.given k)) s.requires e.if1.false)
+    rw c.before.mask-own.ensures
+    (spare_cleared s.args.cells s.args.marks.now (λ k. omega (arith, e.before.slice_known-1.given k)) s.requires e.if-low-eq0.false)
 
-pub clear-spare-spec : {M : Type 1} → statement M
-clear-spare-spec =
+pub clear_spare_spec : {M : Type 1} → statement M
+clear_spare_spec =
     tie.close (tie.spec returns (λ c κs. search rules) (λ c. search rules) (λ c. search rules) (λ c. search rules) returns-2)

@@ -8,26 +8,26 @@ use borrow.Author.Rules.{rules}
 use Rattle.bits.proofs.mask.Statement.{statement}
 use Rattle.bits.proofs.mask.Tie as tie
 
-cast-result : tie.Need-overflow-cast-result
+cast-result : tie.Need-overflow_cast-result
 cast-result c = search rules
 
-shl-result : tie.Need-overflow-shl-result
+shl-result : tie.Need-overflow_shl-result
 shl-result c = search rules
 
-cast-result-2 : tie.Need-overflow-cast-result-2
+cast-result-2 : tie.Need-overflow_cast-result-2
 cast-result-2 c = search rules
 
-shl-result-2 : tie.Need-overflow-shl-result-2
+shl-result-2 : tie.Need-overflow_shl-result-2
 shl-result-2 c = search rules
 
 -- a shifted one is a power of two
 shifted : (k : ℕ) → k ≤ 8 → 1 * 2 ^ k % 4294967296 ≡ 2 ^ k
 shifted k h = let l : 2 ^ k ≤ 2 ^ 8 = pow_mono h in rw (one-mul (2 ^ k)) (mod-eq_of_lt (omega arith))
 
-sub-result : tie.Need-overflow-sub-result
+sub-result : tie.Need-overflow_sub-result
 sub-result c = rw (shifted c.args.low (omega arith), shifted c.args.high (omega arith)) (pow_mono (omega arith))
 
-cast-result-3 : tie.Need-overflow-cast-result-3
+cast-result-3 : tie.Need-overflow_cast-result-3
 cast-result-3 c =
     let l : 2 ^ c.args.high ≤ 2 ^ 8 = pow_mono {j = 8} (omega arith) in
     rw (shifted c.args.low (omega arith), shifted c.args.high (omega arith)) (omega (arith, pow_pos c.args.low))
@@ -35,7 +35,7 @@ cast-result-3 c =
 returns : tie.Need-returns
 returns c = rw (shifted c.args.low (omega arith), shifted c.args.high (omega arith))
 
-pub mask-spec : {M : Type 1} → statement M
-mask-spec =
+pub mask_spec : {M : Type 1} → statement M
+mask_spec =
     tie.close
     (tie.spec cast-result shl-result cast-result-2 shl-result-2 sub-result cast-result-3 returns)

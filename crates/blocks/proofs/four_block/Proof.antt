@@ -9,24 +9,24 @@ use Rattle.blocks.proofs.BlockLaws.{laid_four}
 use Rattle.blocks.proofs.four_block.Statement.{statement}
 use Rattle.blocks.proofs.four_block.Tie as tie
 
-abbrev invariant-loop : tie.invariant-loop
+abbrev invariant-loop : tie.invariant-loop-i
 invariant-loop low high block₀ i₀ block i = (i ≤ 16) × (length block ≡ 64) × Laid 4 (4 * i) (λ j. bytes (get_or low j 0) ++ bytes (get_or high j 0)) block
 
-abbrev decreases-loop : tie.decreases-loop
+abbrev decreases-loop : tie.decreases-loop-i
 decreases-loop low high block₀ i₀ block i = 16 - i
 
-loop-again : tie.Need-loop-preserved invariant-loop decreases-loop
+loop-again : tie.Need-loop-i-preserved invariant-loop decreases-loop
 loop-again c =
-    let k = c.before.before.before.before.before in
-    let l = k.loop in
-    let a = k.before.args in (
+    let k = c.before.before.before.before.before.before.before in
+    let l = k.loop-i in
+    let a = k.args in (
       omega arith,
       simp (length-set, length-set, length-set, length-set) l.invariant.1,
       laid_four l.i _ _ _ _ (λ j. bytes (get_or a.low.now j 0) ++ bytes (get_or a.high.now j 0)) l.block (omega arith) refl refl refl refl l.invariant.2,
     )
 
-pub four-block-spec : {M : Type 1} → statement M
-four-block-spec =
+pub four_block_spec : {M : Type 1} → statement M
+four_block_spec =
     tie.close
     (tie.spec
     invariant-loop
@@ -58,4 +58,4 @@ four-block-spec =
     (λ c. omega arith)
     (λ c. omega arith)
     loop-again
-    (λ c. let l = c.before.loop in (l.invariant.1, λ d j u h. l.invariant.2 d j u (omega arith))))
+    (λ c. let l = c.loop-i in (l.invariant.1, λ d j u h. l.invariant.2 d j u (omega arith))))

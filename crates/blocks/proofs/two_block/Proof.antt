@@ -8,20 +8,20 @@ use Rattle.blocks.proofs.BlockLaws.{laid_two}
 use Rattle.blocks.proofs.two_block.Statement.{statement}
 use Rattle.blocks.proofs.two_block.Tie as tie
 
-abbrev invariant-loop : tie.invariant-loop
+abbrev invariant-loop : tie.invariant-loop-i
 invariant-loop pairs block₀ i₀ block i = (i ≤ 16) × (length block ≡ 64) × Laid 2 (2 * i) (λ j. bytes (get_or pairs j 0)) block
 
-abbrev decreases-loop : tie.decreases-loop
+abbrev decreases-loop : tie.decreases-loop-i
 decreases-loop pairs block₀ i₀ block i = 16 - i
 
-loop-again : tie.Need-loop-preserved invariant-loop decreases-loop
+loop-again : tie.Need-loop-i-preserved invariant-loop decreases-loop
 loop-again c =
-    let l = c.before.before.before.loop in
-    let pairs = c.before.before.before.before.args.pairs.now in
+    let l = c.loop-i in
+    let pairs = c.args.pairs.now in
     (omega arith, simp (length-set, length-set) l.invariant.1, laid_two l.i _ _ (λ j. bytes (get_or pairs j 0)) l.block (omega arith) refl refl l.invariant.2)
 
-pub two-block-spec : {M : Type 1} → statement M
-two-block-spec =
+pub two_block_spec : {M : Type 1} → statement M
+two_block_spec =
     tie.close
     (tie.spec
     invariant-loop
@@ -41,4 +41,4 @@ two-block-spec =
     (λ c. omega arith)
     (λ c. omega arith)
     loop-again
-    (λ c. let l = c.before.loop in (l.invariant.1, λ d j u h. l.invariant.2 d j u (omega arith))))
+    (λ c. let l = c.loop-i in (l.invariant.1, λ d j u h. l.invariant.2 d j u (omega arith))))

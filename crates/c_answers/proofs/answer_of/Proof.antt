@@ -6,7 +6,7 @@ use Rattle.c_answers.proofs.answer_of.Tie as tie
 
 returns : tie.Need-returns
 unfolding answer_of
-returns c = rw (c.before.flag.ensures, c.address-of.ensures)
+returns c = rw (c.flag.ensures, c.address_of.ensures)
 
-pub answer-of-spec : {M : Type 1} → statement M
-answer-of-spec = tie.close (tie.spec (λ c. search rules) (λ c κs. search rules) (λ c κs. search rules) returns)
+pub answer_of_spec : {M : Type 1} → statement M
+answer_of_spec = tie.close (tie.spec (λ c. search rules) (λ c κs. search rules) (λ c κs. search rules) returns)

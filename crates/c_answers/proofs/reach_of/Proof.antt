@@ -7,7 +7,7 @@ use Rattle.c_answers.proofs.reach_of.Tie as tie
 
 returns : tie.Need-returns
 unfolding reach_of
-returns c = by_test c.before.args.span.any (λ e. rw e) (λ e. rw e)
+returns c = by_test c.args.span.any (λ e. rw e) (λ e. rw e)
 
-pub reach-of-spec : {M : Type 1} → statement M
-reach-of-spec = tie.close (tie.spec (λ c. search rules) returns)
+pub reach_of_spec : {M : Type 1} → statement M
+reach_of_spec = tie.close (tie.spec (λ c. search rules) returns)

@@ -8,5 +8,5 @@ returns : tie.Need-returns
 unfolding result_of
 returns c = refl
 
-pub result-of-spec : {M : Type 1} → statement M
-result-of-spec = tie.close (tie.spec returns)
+pub result_of_spec : {M : Type 1} → statement M
+result_of_spec = tie.close (tie.spec returns)

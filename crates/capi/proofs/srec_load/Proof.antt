@@ -7,8 +7,8 @@ use Rattle.capi.proofs.srec_load.Tie as tie
 
 returns : tie.Need-returns
 returns c =
-    let l = c.before.before.before.before.before.load.ensures in
+    let l = c.load-loaded.ensures in
     (ap (λ (x : Loaded). x.refusal.reason) l.0, l.1)
 
-pub srec-load-spec : {M : Type 1} → statement M
-srec-load-spec = tie.close (tie.spec (λ c κs. search rules) (λ c. search rules) (λ c. search rules) returns)
+pub srec_load_spec : {M : Type 1} → statement M
+srec_load_spec = tie.close (tie.spec (λ c κs. search rules) (λ c. search rules) (λ c. search rules) returns)

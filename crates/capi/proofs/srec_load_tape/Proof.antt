@@ -11,12 +11,12 @@ returns : tie.Need-returns
 returns c =
     let at_load = c.before.before.before.before.before in
     let at-edition = at_load.before.before.before in
-    let a = at-edition.before.before.before.before.args in
-    let q = at_load.load-tape.ensures in
-    let l = load_named _ _ at-edition.edition-of.ensures (window_of a.base a.memory.now a.marks.now) a.text.now _ _ _
+    let a = at-edition.args in
+    let q = at_load.load_tape-loaded.ensures in
+    let l = load_named _ _ at-edition.edition_of.ensures (window_of a.base a.memory.now a.marks.now) a.text.now _ _ _
     (q.0, q.1.0, q.1.1) in
     (ap (λ (x : Loaded). x.refusal.reason) l.0, (l.1, l.2))
 
-pub srec-load-tape-spec : {M : Type 1} → statement M
-srec-load-tape-spec =
+pub srec_load_tape_spec : {M : Type 1} → statement M
+srec_load_tape_spec =
     tie.close (tie.spec (λ c κs. search rules) (λ c κs. search rules) (λ c. search rules) (λ c. search rules) returns)

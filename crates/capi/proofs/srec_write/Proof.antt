@@ -7,8 +7,8 @@ use Rattle.capi.proofs.srec_write.Tie as tie
 
 returns : tie.Need-returns
 returns c =
-    let w = c.before.before.write.ensures in
+    let w = c.write-written.ensures in
     (ap (λ (x : Written). x.length) w.0, w.1)
 
-pub srec-write-spec : {M : Type 1} → statement M
-srec-write-spec = tie.close (tie.spec (λ c κs. search rules) (λ c. search rules) returns)
+pub srec_write_spec : {M : Type 1} → statement M
+srec_write_spec = tie.close (tie.spec (λ c κs. search rules) (λ c. search rules) returns)

@@ -11,11 +11,11 @@ returns : tie.Need-returns
 returns c =
     let at-write = c.before.before in
     let at-edition = at-write.before.before.before in
-    let a = at-edition.before.before.before.before.args in
-    let w = write_named _ _ at-edition.edition-of.ensures (window_of a.base a.memory.now a.marks.now) a.out.now _ _
-    at-write.write.ensures in
+    let a = at-edition.args in
+    let w = write_named _ _ at-edition.edition_of.ensures (window_of a.base a.memory.now a.marks.now) a.out.now _ _
+    at-write.write-written.ensures in
     (ap (λ (x : Written). x.length) w.0, w.1)
 
-pub srec-write-tape-spec : {M : Type 1} → statement M
-srec-write-tape-spec =
+pub srec_write_tape_spec : {M : Type 1} → statement M
+srec_write_tape_spec =
     tie.close (tie.spec (λ c κs. search rules) (λ c. search rules) (λ c κs. search rules) (λ c. search rules) returns)

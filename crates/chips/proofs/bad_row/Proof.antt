@@ -8,16 +8,16 @@ use borrow.Author.Rules.{rules}
 use Rattle.chips.proofs.bad_row.Statement.{statement}
 use Rattle.chips.proofs.bad_row.Tie as tie
 
-returns : tie.Need-returns
-returns c = let t = c.before in let h = t.before in c.refuse.ensures ∙ bad_none _ (refusal 0 0 0) (sym h.has-bad.ensures ∙ not-true _ t.if1.true)
+returns : tie.Need-returns-then-not-has_bad
+returns c = let t = c.before in let h = t.before in c.refuse.ensures ∙ bad_none _ (refusal 0 0 0) (sym h.has_bad.ensures ∙ t.if-not-has_bad.true)
 
-returns-2 : tie.Need-returns-2
+returns-2 : tie.Need-returns
 returns-2 c =
     let b = c.before in
     let e = b.before in
     let h = e.before in
-    c.refuse2.ensures ∙ ap (λ (place : ℕ). refusal 16 0 place) b.bad-byte.ensures
-    ∙ bad_found _ (refusal 0 0 0) (sym h.has-bad.ensures ∙ not-false _ e.if1.false)
+    c.refuse-2.ensures ∙ ap (λ (place : ℕ). refusal 16 0 place) b.bad_byte-place.ensures
+    ∙ bad_found _ (refusal 0 0 0) (sym h.has_bad.ensures ∙ e.if-not-has_bad.false)
 
-pub bad-row-spec : {M : Type 1} → statement M
-bad-row-spec = tie.close (tie.spec (λ c κs. search rules) (λ c κs. search rules) returns (λ c κs. search rules) (λ c κs. search rules) returns-2)
+pub bad_row_spec : {M : Type 1} → statement M
+bad_row_spec = tie.close (tie.spec (λ c κs. search rules) (λ c κs. search rules) returns (λ c κs. search rules) (λ c κs. search rules) returns-2)

@@ -4,13 +4,13 @@ use Rattle.chips.specs.Refusals.{lengths_differ}
 use Rattle.chips.proofs.is_misfit.Statement.{statement}
 use Rattle.chips.proofs.is_misfit.Tie as tie
 
-returns : tie.Need-returns
+returns : tie.Need-returns-then-memory-cells
 unfolding lengths_differ
-returns c = rw (ne_eqb c.before.args.memory c.before.args.cells c.if1.true)
+returns c = rw (ne_eqb c.args.memory c.args.cells c.if-memory-cells.true)
 
-returns-2 : tie.Need-returns-2
+returns-2 : tie.Need-returns
 unfolding lengths_differ
-returns-2 c = rw (eq-eqb c.before.args.memory c.before.args.cells c.if1.false)
+returns-2 c = rw (eq-eqb c.args.memory c.args.cells c.if-memory-cells.false)
 
-pub is-misfit-spec : {M : Type 1} → statement M
-is-misfit-spec = tie.close (tie.spec returns returns-2)
+pub is_misfit_spec : {M : Type 1} → statement M
+is_misfit_spec = tie.close (tie.spec returns returns-2)

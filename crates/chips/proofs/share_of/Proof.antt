@@ -5,13 +5,13 @@ use Rattle.chips.specs.Shares.{share}
 use Rattle.chips.proofs.share_of.Statement.{statement}
 use Rattle.chips.proofs.share_of.Tie as tie
 
-returns : tie.Need-returns
+returns : tie.Need-returns-then-chip-k
 unfolding share
-returns c = rw (lt-ltb c.before.args.chip c.before.args.k c.if1.true)
+returns c = rw (lt-ltb c.args.chip c.args.k c.if-chip-k.true)
 
-returns-2 : tie.Need-returns-2
+returns-2 : tie.Need-returns
 unfolding share
-returns-2 c = rw (le-ltb c.before.args.chip c.before.args.k c.if1.false)
+returns-2 c = rw (le-ltb c.args.chip c.args.k c.if-chip-k.false)
 
-pub share-of-spec : {M : Type 1} → statement M
-share-of-spec = tie.close (tie.spec (λ c. search rules) returns returns-2)
+pub share_of_spec : {M : Type 1} → statement M
+share_of_spec = tie.close (tie.spec (λ c. search rules) returns returns-2)

@@ -7,8 +7,8 @@ use Rattle.chips_c.proofs.srec_collect.Tie as tie
 
 returns : tie.Need-returns
 returns c =
-    let d = c.before.before.before.before.before.before.before.collect.ensures in
-    (c.bare-answer.ensures ∙ ap collected_of d.0, d.1)
+    let d = c.collect-answer.ensures in
+    (c.bare_answer.ensures ∙ ap collected_of d.0, d.1)
 
-pub srec-collect-spec : {M : Type 1} → statement M
-srec-collect-spec = tie.close (tie.spec (λ c κs. search rules) (λ c κs. search rules) (λ c. search rules) (λ c. search rules) returns)
+pub srec_collect_spec : {M : Type 1} → statement M
+srec_collect_spec = tie.close (tie.spec (λ c κs. search rules) (λ c κs. search rules) (λ c. search rules) (λ c. search rules) returns)

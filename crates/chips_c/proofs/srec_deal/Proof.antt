@@ -10,13 +10,13 @@ use Rattle.chips_c.proofs.srec_deal.Tie as tie
 
 returns : tie.Need-returns
 returns c =
-    let d = c.before.before.before.before.before.before.before.before.before.before.before.before.before.before.before.before.before.before.deal in (
-      c.bare-answer.ensures ∙ ap (λ (h : Header). answer_of (bare_of d.result h Absent)) c.before.no_header.ensures ∙ ap dealt_of d.ensures.0,
+    let d = c.deal-refusal in (
+      c.bare_answer.ensures ∙ ap (λ (h : Header). answer_of (bare_of d.result h Absent)) c.no_header.ensures ∙ ap dealt_of d.ensures.0,
       d.ensures.1,
     )
 
-pub srec-deal-spec : {M : Type 1} → statement M
-srec-deal-spec =
+pub srec_deal_spec : {M : Type 1} → statement M
+srec_deal_spec =
     tie.close
     (tie.spec
     (λ c κs. search rules)

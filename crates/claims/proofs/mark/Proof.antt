@@ -11,40 +11,40 @@ use borrow.Author.Rules.{rules}
 use Rattle.claims.proofs.mark.Statement.{statement}
 use Rattle.claims.proofs.mark.Tie as tie
 
-part-cover-end : tie.Need-slice-bounds-cover-end
+part-cover-end : tie.Need-slice_bounds-cover-end
 part-cover-end c =
-    let s = c.before.before.before in
+    let s = c.before.before in
     let a = s.args in
-    let e = bytes_long a.form a.cells a.marks.now (tidy_length a.form a.cells a.marks.now s.requires.2) c.enum_told.given.1 in
+    let e = bytes_long a.form a.cells a.marks.now (tidy_length a.form a.cells a.marks.now s.requires.2) c.in-Bytes.is in
     search rules
 
-set-bits-requires : tie.Need-set-bits-requires
+set-bits-requires : tie.Need-set_bits-requires
 set-bits-requires c κs =
     let t = c.before in
-    let s = t.before.before.before in
+    let s = t.before.before in
     let a = s.args in
-    let e = packed_long a.form a.cells a.marks.now (tidy_length a.form a.cells a.marks.now s.requires.2) t.enum-told2.given.1 in
+    let e = packed_long a.form a.cells a.marks.now (tidy_length a.form a.cells a.marks.now s.requires.2) t.in-Packed.is in
     omega arith
 
-returns : tie.Need-returns
+returns : tie.Need-returns-in-Bytes
 returns c =
     let at-cover = c.before.before in
     let t = at-cover.before.before in
-    let s = t.before.before.before in
+    let s = t.before.before in
     let a = s.args in
-    let e = bytes_long a.form a.cells a.marks.now (tidy_length a.form a.cells a.marks.now s.requires.2) t.enum_told.given.1 in
-    rw t.enum_told.given.1 (lent_filled a.from _ (a.to - a.from) 1 a.marks.now _ refl (omega arith) at-cover.cover.ensures)
+    let e = bytes_long a.form a.cells a.marks.now (tidy_length a.form a.cells a.marks.now s.requires.2) t.in-Bytes.is in
+    rw t.in-Bytes.is (lent_filled a.from _ (a.to - a.from) 1 a.marks.now _ refl (omega arith) at-cover.cover.ensures)
 
-returns-2 : tie.Need-returns-2
+returns-2 : tie.Need-returns-in-Packed
 returns-2 c =
     let at_set = c.before.before in
     let t = at_set.before.before in
-    let s = t.before.before.before in
+    let s = t.before.before in
     let a = s.args in
-    let told = t.enum-told2.given.1 in
+    let told = t.in-Packed.is in
     rw told
     (painted a.cells a.marks.now a.from (a.to - a.from) a.to (omega arith) s.requires.1 _
-    (subst (λ (f : Form). Tidy f a.cells a.marks.now) told s.requires.2).1 at_set.set-bits.ensures at_set.set-bits.auto.0)
+    (subst (λ (f : Form). Tidy f a.cells a.marks.now) told s.requires.2).1 at_set.set_bits.ensures at_set.set_bits.auto.marks)
 
 pub mark_spec : {M : Type 1} → statement M
 mark_spec =

@@ -6,5 +6,5 @@ use Rattle.collect.proofs.answer.Tie as tie
 returns : tie.Need-returns
 returns c = rw c.no_header.ensures
 
-pub answer-spec : {M : Type 1} → statement M
-answer-spec = tie.close (tie.spec (λ c κs. search rules) returns)
+pub answer_spec : {M : Type 1} → statement M
+answer_spec = tie.close (tie.spec (λ c κs. search rules) returns)

@@ -13,7 +13,7 @@ use Rattle.collect.proofs.collect.Statement.{statement}
 use Rattle.collect.proofs.collect.Tie as tie
 
 -- the call, and its board
-abbrev start : tie.After-length-row → tie.Start
+abbrev start : tie.After-length_row-row → tie.Start
 start c = c.before.before.before.before.before.before.before.before.before.before.before
 
 abbrev board : tie.Start → Board
@@ -25,43 +25,43 @@ board s =
 abbrev answered : Refusal → Collected
 answered r = record { refusal = r; header = header_of []; entry = Absent }
 
-returns : tie.Need-returns
+returns : tie.Need-returns-then-row-ne0
 returns c =
     let f = c.before in
     let j = f.before.before in
     let s = start j in
     let a = s.args in
-    let r = refused_by_lengths a.k a.base a.memory.now a.marks.now (board s) f.refuse.result _ f.refuse.ensures j.length-row.ensures f.before.if1.true in
+    let r = refused_by_lengths a.k a.base a.memory.now a.marks.now (board s) f.refuse.result _ f.refuse.ensures j.length_row-row.ensures f.if-row-ne0.true in
     (c.answer.ensures ∙ ap answered r.refuses, r.whole)
 
 -- the lengths are right
-lengths : (c : tie.Else1) → let a = (start c.before).args in 0 ≡ row_of a.k a.base a.memory.now a.marks.now (board (start c.before))
-lengths c = sym c.if1.false ∙ c.before.length-row.ensures
+lengths : (c : tie.Else-row-ne0) → let a = (start c.before).args in 0 ≡ row_of a.k a.base a.memory.now a.marks.now (board (start c.before))
+lengths c = sym c.if-row-ne0.false ∙ c.length_row-row.ensures
 
-returns-2 : tie.Need-returns-2
+returns-2 : tie.Need-returns-then-bad-ne0
 returns-2 c =
     let t = c.before in
     let m = t.before.before in
     let e = m.before in
     let s = start e.before in
     let a = s.args in
-    let r = refused_by_marks a.k a.base a.memory.now a.marks.now (board s) m.bad-chip.result (lengths e) m.bad-chip.ensures t.if2.true in
-    (c.answer2.ensures ∙ ap answered r.refuses, r.whole)
+    let r = refused_by_marks a.k a.base a.memory.now a.marks.now (board s) m.bad_chip-bad.result (lengths e) m.bad_chip-bad.ensures t.if-bad-ne0.true in
+    (c.answer-then-bad-ne0.ensures ∙ ap answered r.refuses, r.whole)
 
 -- no row applies
-abbrev passing : tie.After-collect-rows-arg2 → tie.Else2
+abbrev passing : tie.After-collect_rows-arg-2-1 → tie.Else-bad-ne0
 passing c = c.before.before
 
-collect-rows-requires : tie.Need-collect-rows-requires
+collect-rows-requires : tie.Need-collect_rows-requires
 collect-rows-requires c κs =
     let g = passing c in
     let m = g.before.before in
     let e = m.before in
     let s = start e.before in
     let a = s.args in
-    ready a.k a.base a.memory.now a.marks.now (board s) m.bad-chip.result (lengths e) m.bad-chip.ensures g.if2.left
+    ready a.k a.base a.memory.now a.marks.now (board s) m.bad_chip-bad.result (lengths e) m.bad_chip-bad.ensures g.if-bad-ne0.false
 
-returns-3 : tie.Need-returns-3
+returns-3 : tie.Need-returns
 returns-3 c =
     let d = c.before.before.before.before.before in
     let g = passing d.before in
@@ -69,12 +69,12 @@ returns-3 c =
     let e = m.before in
     let s = start e.before in
     let a = s.args in
-    let after : Buffers = buffers_of d.collect-rows.new.1.0 d.collect-rows.new.1.1.0 in
-    let r = accepted a.k a.base a.memory.now a.marks.now (board s) m.bad-chip.result (lengths e) m.bad-chip.ensures g.if2.left after d.collect-rows.ensures in
-    (c.answer3.ensures ∙ ap answered r.refuses, r.whole)
+    let after : Buffers = buffers_of d.collect_rows.new.memory d.collect_rows.new.marks in
+    let r = accepted a.k a.base a.memory.now a.marks.now (board s) m.bad_chip-bad.result (lengths e) m.bad_chip-bad.ensures g.if-bad-ne0.false after d.collect_rows.ensures in
+    (c.answer-2.ensures ∙ ap answered r.refuses, r.whole)
 
-pub collect-spec : {M : Type 1} → statement M
-collect-spec =
+pub collect_spec : {M : Type 1} → statement M
+collect_spec =
     tie.close
     (tie.spec
     (λ c κs. search rules)

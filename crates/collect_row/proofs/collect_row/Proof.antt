@@ -14,7 +14,7 @@ use Rattle.collect_row.proofs.collect_row.Statement.{statement}
 use Rattle.collect_row.proofs.collect_row.Tie as tie
 
 -- the call, its window's buffers and its board
-abbrev start : tie.After-shared-slice-known8 → tie.Start
+abbrev start : tie.After-shared_slice_known-8-1 → tie.Start
 start c = c.before.before.before.before.before.before.before.before.before.before
 
 abbrev whole : tie.Start → Buffers
@@ -26,49 +26,49 @@ board s =
     board_of a.memory0.now a.marks0.now a.memory1.now a.marks1.now a.memory2.now a.marks2.now a.memory3.now a.marks3.now
 
 -- the row ends within the whole
-end : (c : tie.After-shared-slice-known8) → let a = (start c).args in a.k * (a.at + a.size) ≤ length a.memory.now
-end c = let s = start c in ends s.args.k (whole s) (board s) s.pre.2 s.args.at s.args.size s.pre.0 s.pre.1
+end : (c : tie.After-shared_slice_known-8-1) → let a = (start c).args in a.k * (a.at + a.size) ≤ length a.memory.now
+end c = let s = start c in ends s.args.k (whole s) (board s) s.requires.2 s.args.at s.args.size s.requires.0 s.requires.1
 
-rows-at-requires : tie.Need-rows-at-requires
+rows-at-requires : tie.Need-rows_at-cells-requires
 rows-at-requires c κs =
     let s = start c in
-    let r = s.pre.2 in
-    (s.pre.0, r.count, has_row s.args.k (whole s) (board s) r s.args.at s.args.size s.pre.0 s.pre.1 (λ n. (chip_at (board s) n).memory) (λ n u. (r.shares n u).0))
+    let r = s.requires.2 in
+    (s.requires.0, r.count, has_row s.args.k (whole s) (board s) r s.args.at s.args.size s.requires.0 s.requires.1 (λ n. (chip_at (board s) n).memory) (λ n u. (r.shares n u).0))
 
-rows-at-requires-2 : tie.Need-rows-at-requires-2
+rows-at-requires-2 : tie.Need-rows_at-flags-requires
 rows-at-requires-2 c κs =
     let s = start c.before in
-    let r = s.pre.2 in
-    (s.pre.0, r.count, has_row s.args.k (whole s) (board s) r s.args.at s.args.size s.pre.0 s.pre.1 (λ n. (chip_at (board s) n).marks) (λ n u. (r.shares n u).1))
+    let r = s.requires.2 in
+    (s.requires.0, r.count, has_row s.args.k (whole s) (board s) r s.args.at s.args.size s.requires.0 s.requires.1 (λ n. (chip_at (board s) n).marks) (λ n u. (r.shares n u).1))
 
 -- behind the blocks: the rows, and the call
-abbrev rows : tie.After-blocks-of → tie.After-rows-at2
+abbrev rows : tie.After-blocks_of-blocks → tie.After-rows_at-flags
 rows d = d.before.before.before
 
-abbrev known : tie.After-blocks-of → tie.After-shared-slice-known8
+abbrev known : tie.After-blocks_of-blocks → tie.After-shared_slice_known-8-1
 known d = (rows d).before.before
 
 -- the block of cells, and that of flags
-abbrev cells : tie.After-blocks-of → List ℕ
-cells d = get_or d.blocks-of.result 0 []
+abbrev cells : tie.After-blocks_of-blocks → List ℕ
+cells d = get_or d.blocks_of-blocks.result 0 []
 
-abbrev flags : tie.After-blocks-of → List ℕ
-flags d = get_or d.blocks-of.result 1 []
+abbrev flags : tie.After-blocks_of-blocks → List ℕ
+flags d = get_or d.blocks_of-blocks.result 1 []
 
-receive-rows-requires : tie.Need-receive-rows-requires
+receive-rows-requires : tie.Need-receive_rows-requires
 receive-rows-requires c κs =
     let d = c.before.before.before.before.before.before in
     let s = start (known d) in
     let a = s.args in
-    let b = d.blocks-of.ensures in
+    let b = d.blocks_of-blocks.ensures in
     let from = a.k * a.at in
     let to = a.k * (a.at + a.size) in
     let p : length (take (to - from) (drop from a.memory.now)) ≡ to - from = part_long a.memory.now from to (omega arith) (end (known d)) in
     let q : length (take (to - from) (drop from a.marks.now)) ≡ to - from
-    = part_long a.marks.now from to (omega arith) (rw s.pre.2.long (end (known d))) in
-    let w = small a.k (whole s) (board s) s.pre.2 a.at a.size s.pre.0 s.pre.1 in
-    let f = flags_clean a.k (whole s) (board s) s.pre.2 a.at a.size s.pre.0 s.pre.1 (cells d) (flags d)
-    (rows d).before.rows_at.result (rows d).rows-at2.result b.0.1 b.1.1 (rows d).before.rows_at.ensures (rows d).rows-at2.ensures in
+    = part_long a.marks.now from to (omega arith) (rw s.requires.2.long (end (known d))) in
+    let w = small a.k (whole s) (board s) s.requires.2 a.at a.size s.requires.0 s.requires.1 in
+    let f = flags_clean a.k (whole s) (board s) s.requires.2 a.at a.size s.requires.0 s.requires.1 (cells d) (flags d)
+    (rows d).rows_at-cells.result (rows d).rows_at-flags.result b.0.1 b.1.1 (rows d).rows_at-cells.ensures (rows d).rows_at-flags.ensures in
     record { few = omega (arith, p, w); cells_long = omega (arith, p, w, b.0.0); flags_long = omega (arith, p, w, b.1.0); same = q ∙ sym p; clean = rw p f }
 
 returns : tie.Need-returns
@@ -77,15 +77,15 @@ returns c =
     let d = r.before.before.before.before.before.before.before in
     let s = start (known d) in
     let a = s.args in
-    let b = d.blocks-of.ensures in
-    let w = small a.k (whole s) (board s) s.pre.2 a.at a.size s.pre.0 s.pre.1 in
-    row_collected a.k (whole s) (board s) s.pre.2 a.at a.size s.pre.0 s.pre.1 (cells d) (flags d) (rows d).before.rows_at.result (rows d).rows-at2.result
-    b.0.1 b.1.1 (rows d).before.rows_at.ensures (rows d).rows-at2.ensures _
-    (part_received a.memory.now a.marks.now (cells d) (flags d) (a.k * a.at) (a.k * (a.at + a.size)) (omega arith) (end (known d)) s.pre.2.long
-    (omega (arith, w, b.0.0)) (omega (arith, w, b.1.0)) _ _ r.receive-rows.ensures.0 r.receive-rows.ensures.1)
+    let b = d.blocks_of-blocks.ensures in
+    let w = small a.k (whole s) (board s) s.requires.2 a.at a.size s.requires.0 s.requires.1 in
+    row_collected a.k (whole s) (board s) s.requires.2 a.at a.size s.requires.0 s.requires.1 (cells d) (flags d) (rows d).rows_at-cells.result (rows d).rows_at-flags.result
+    b.0.1 b.1.1 (rows d).rows_at-cells.ensures (rows d).rows_at-flags.ensures _
+    (part_received a.memory.now a.marks.now (cells d) (flags d) (a.k * a.at) (a.k * (a.at + a.size)) (omega arith) (end (known d)) s.requires.2.long
+    (omega (arith, w, b.0.0)) (omega (arith, w, b.1.0)) _ _ r.receive_rows.ensures.0 r.receive_rows.ensures.1)
 
-pub collect-row-spec : {M : Type 1} → statement M
-collect-row-spec =
+pub collect_row_spec : {M : Type 1} → statement M
+collect_row_spec =
     tie.close
     (tie.spec
     (λ c. omega (arith, end c))
@@ -101,9 +101,9 @@ collect-row-spec =
     (λ c. omega (arith, end (known c.before.before)))
     (λ c. search rules)
     (λ c. search rules)
-    (λ c. let k = known c.before.before.before in omega (arith, end k, (start k).pre.2.long))
-    (λ c. sym c.before.before.before.before.before.blocks-of.ensures.0.0)
-    (λ c. sym c.before.before.before.before.before.before.blocks-of.ensures.1.0)
+    (λ c. let k = known c.before.before.before in omega (arith, end k, (start k).requires.2.long))
+    (λ c. sym c.blocks_of-blocks.ensures.0.0)
+    (λ c. sym c.blocks_of-blocks.ensures.1.0)
     receive-rows-requires
     (λ c. search rules)
     (λ c. search rules)

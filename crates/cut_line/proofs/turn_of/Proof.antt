@@ -5,11 +5,11 @@ use borrow.Author.Rules.{rules}
 use Rattle.cut_line.proofs.turn_of.Statement.{statement}
 use Rattle.cut_line.proofs.turn_of.Tie as tie
 
-returns : tie.Need-returns
-returns c = ap turn_as (sym c.before.rest.given.1)
+returns : tie.Need-returns-in-Refused
+returns c = ap turn_as (sym c.in-Refused.is)
 
-returns-2 : tie.Need-returns-2
-returns-2 c = ap turn_as (sym c.before.rest2.given.1)
+returns-2 : tie.Need-returns-in-From
+returns-2 c = ap turn_as (sym c.in-From.is)
 
-pub turn-of-spec : {M : Type 1} → statement M
-turn-of-spec = tie.close (tie.spec (λ c. search rules) (λ c. search rules) returns returns-2)
+pub turn_of_spec : {M : Type 1} → statement M
+turn_of_spec = tie.close (tie.spec (λ c. search rules) (λ c. search rules) returns returns-2)

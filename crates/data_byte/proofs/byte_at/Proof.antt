@@ -13,31 +13,31 @@ pair : (c : tie.Start) → Pair c.args.chars.now (start_of c.args.format c.args.
     (bytes_in ((format_of c.args.format).part c.args.chars.now)) c.args.index
 pair c = data_at c.args.format c.args.chars.now c.args.index c.requires.1
 
-start-of-requires : tie.Need-start-of-requires
-start-of-requires c κs = let a = c.before.args in omega (arith, (pair c.before).inside, start_least a.format a.chars.now)
+start-of-requires : tie.Need-start_of-requires
+start-of-requires c κs = let a = c.args in omega (arith, (pair c.before).inside, start_least a.format a.chars.now)
 
-mul_at : tie.Need-overflow-mul-at
+mul_at : tie.Need-overflow_mul-at
 mul_at c = record { fits = omega (arith, (pair c.before.before).inside) }
 
-add_at : tie.Need-overflow-add-at
-add_at c = record { fits = omega (arith, (pair c.before.before).inside, c.start_of_lem.ensures) }
+add_at : tie.Need-overflow_add-at
+add_at c = record { fits = omega (arith, (pair c.before.before).inside, c.start_of.ensures) }
 
-shared-slice-read-byte-of : tie.Need-shared-slice-read-byte-of
-shared-slice-read-byte-of c = omega (arith, (pair c.before.before.before).inside, c.before.start_of_lem.ensures)
+shared-slice-read-byte-of : tie.Need-bounds-chars-at
+shared-slice-read-byte-of c = omega (arith, (pair c.before.before.before).inside, c.start_of.ensures)
 
-add-byte-of : tie.Need-overflow-add-byte-of
-add-byte-of c = record { fits = omega (arith, (pair c.before.before.before).inside, c.before.start_of_lem.ensures) }
+add-byte-of : tie.Need-overflow_add-at-2
+add-byte-of c = record { fits = omega (arith, (pair c.before.before.before).inside, c.start_of.ensures) }
 
-shared-slice-read-byte-of-2 : tie.Need-shared-slice-read-byte-of-2
-shared-slice-read-byte-of-2 c = omega (arith, (pair c.before.before.before.before).inside, c.before.before.start_of_lem.ensures)
+shared-slice-read-byte-of-2 : tie.Need-bounds-chars-at-2
+shared-slice-read-byte-of-2 c = omega (arith, (pair c.before.before.before.before).inside, c.start_of.ensures)
 
 returns : tie.Need-returns
 returns c =
     let s = c.before.before.before in
-    c.byte_of.ensures ∙ rw s.start_of_lem.ensures (pair s.before.before).is
+    c.byte_of.ensures ∙ rw s.start_of.ensures (pair s.before.before).is
 
-pub byte-at-spec : {M : Type 1} → statement M
-byte-at-spec =
+pub byte_at_spec : {M : Type 1} → statement M
+byte_at_spec =
     tie.close
     (tie.spec
     start-of-requires

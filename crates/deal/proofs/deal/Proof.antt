@@ -9,7 +9,7 @@ use Rattle.deal.proofs.deal.Statement.{statement}
 use Rattle.deal.proofs.deal.Tie as tie
 
 -- the call, and its board
-abbrev start : tie.After-length-row → tie.Start
+abbrev start : tie.After-length_row-row → tie.Start
 start c = c.before.before.before.before.before.before.before.before.before.before.before
 
 abbrev board : tie.Start → Board
@@ -17,41 +17,41 @@ board s =
     let a = s.args in
     board_of a.memory0.now a.marks0.now a.memory1.now a.marks1.now a.memory2.now a.marks2.now a.memory3.now a.marks3.now
 
-returns : tie.Need-returns
+returns : tie.Need-returns-then-row-ne0
 returns c =
     let t = c.before in
     let j = t.before in
     let a = (start j).args in
-    let r = refused_by_lengths a.k a.base a.memory.now a.marks.now (board (start j)) _ _ c.refuse.ensures j.length-row.ensures t.if1.true in
+    let r = refused_by_lengths a.k a.base a.memory.now a.marks.now (board (start j)) _ _ c.refuse.ensures j.length_row-row.ensures t.if-row-ne0.true in
     (r.answer, (r.chips 0 (omega arith), (r.chips 1 (omega arith), (r.chips 2 (omega arith), r.chips 3 (omega arith)))))
 
 -- the lengths are right
-lengths : (c : tie.Else1) → let a = (start c.before).args in 0 ≡ row_of a.k a.base a.memory.now a.marks.now (board (start c.before))
-lengths c = sym c.if1.false ∙ c.before.length-row.ensures
+lengths : (c : tie.Else-row-ne0) → let a = (start c.before).args in 0 ≡ row_of a.k a.base a.memory.now a.marks.now (board (start c.before))
+lengths c = sym c.if-row-ne0.false ∙ c.length_row-row.ensures
 
-returns-2 : tie.Need-returns-2
+returns-2 : tie.Need-returns-then-bad-ne0
 returns-2 c =
     let m = c.before.before in
     let e = m.before in
     let s = start e.before in
     let a = s.args in
-    let r = refused_by_marks a.k a.base a.memory.now a.marks.now (board s) m.bad-row.result (lengths e) m.bad-row.ensures c.if2.true in
+    let r = refused_by_marks a.k a.base a.memory.now a.marks.now (board s) m.bad_row-bad.result (lengths e) m.bad_row-bad.ensures c.if-bad-ne0.true in
     (r.answer, (r.chips 0 (omega arith), (r.chips 1 (omega arith), (r.chips 2 (omega arith), r.chips 3 (omega arith)))))
 
 -- no row applies
-abbrev passing : tie.After-deal-rows-arg8 → tie.Else2
+abbrev passing : tie.After-deal_rows-arg-8-1 → tie.Else-bad-ne0
 passing c = c.before.before.before.before.before.before.before.before
 
-deal-rows-requires : tie.Need-deal-rows-requires
+deal-rows-requires : tie.Need-deal_rows-requires
 deal-rows-requires c κs =
     let g = passing c in
     let m = g.before.before in
     let e = m.before in
     let s = start e.before in
     let a = s.args in
-    ready a.k a.base a.memory.now a.marks.now (board s) m.bad-row.result (lengths e) m.bad-row.ensures g.if2.left
+    ready a.k a.base a.memory.now a.marks.now (board s) m.bad_row-bad.result (lengths e) m.bad_row-bad.ensures g.if-bad-ne0.false
 
-returns-3 : tie.Need-returns-3
+returns-3 : tie.Need-returns
 returns-3 c =
     let d = c.before.before.before.before.before.before.before.before.before.before.before.before.before.before.before.before in
     let g = passing d.before in
@@ -60,12 +60,12 @@ returns-3 c =
     let s = start e.before in
     let a = s.args in
     let after : Board
-    = board_of d.deal-rows.new.1.1.1.0 d.deal-rows.new.1.1.1.1.0 d.deal-rows.new.1.1.1.1.1.0 d.deal-rows.new.1.1.1.1.1.1.0 d.deal-rows.new.1.1.1.1.1.1.1.0 d.deal-rows.new.1.1.1.1.1.1.1.1.0 d.deal-rows.new.1.1.1.1.1.1.1.1.1.0 d.deal-rows.new.1.1.1.1.1.1.1.1.1.1.0 in
-    let r = accepted a.k a.base a.memory.now a.marks.now (board s) m.bad-row.result (lengths e) m.bad-row.ensures g.if2.left after d.deal-rows.ensures in
+    = board_of d.deal_rows.new.memory0 d.deal_rows.new.marks0 d.deal_rows.new.memory1 d.deal_rows.new.marks1 d.deal_rows.new.memory2 d.deal_rows.new.marks2 d.deal_rows.new.memory3 d.deal_rows.new.marks3 in
+    let r = accepted a.k a.base a.memory.now a.marks.now (board s) m.bad_row-bad.result (lengths e) m.bad_row-bad.ensures g.if-bad-ne0.false after d.deal_rows.ensures in
     (r.answer, (r.chips 0 (omega arith), (r.chips 1 (omega arith), (r.chips 2 (omega arith), r.chips 3 (omega arith)))))
 
-pub deal-spec : {M : Type 1} → statement M
-deal-spec =
+pub deal_spec : {M : Type 1} → statement M
+deal_spec =
     tie.close
     (tie.spec
     (λ c κs. search rules)

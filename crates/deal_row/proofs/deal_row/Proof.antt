@@ -17,22 +17,22 @@ use Rattle.deal_row.proofs.deal_row.Statement.{statement}
 use Rattle.deal_row.proofs.deal_row.Tie as tie
 
 -- the places: the call, the rows, and each chip's call
-abbrev start : tie.After-slice-known8 → tie.Start
+abbrev start : tie.After-slice_known-8-1 → tie.Start
 start c = c.before.before.before.before.before.before.before.before.before.before
 
-abbrev known : tie.After-rows-of → tie.After-slice-known8
+abbrev known : tie.After-rows_of-rows → tie.After-slice_known-8-1
 known d = d.before.before.before
 
-abbrev rows : tie.After-put-row-arg4 → tie.After-rows-of
+abbrev rows : tie.After-put_row-arg-4-1 → tie.After-rows_of-rows
 rows c = c.before.before.before.before.before.before
 
-abbrev first : tie.After-put-row-arg8 → tie.After-put-row
+abbrev first : tie.After-put_row-arg-8-1 → tie.After-put_row
 first c = c.before.before.before.before.before.before.before.before
 
-abbrev second : tie.After-put-row-arg12 → tie.After-put-row2
+abbrev second : tie.After-put_row-arg-12-1 → tie.After-put_row-2
 second c = c.before.before.before.before.before.before.before.before
 
-abbrev third : tie.After-put-row-arg16 → tie.After-put-row3
+abbrev third : tie.After-put_row-arg-16-1 → tie.After-put_row-3
 third c = c.before.before.before.before.before.before.before.before
 
 -- the board at the call
@@ -42,50 +42,50 @@ board s =
     board_of a.memory0.now a.marks0.now a.memory1.now a.marks1.now a.memory2.now a.marks2.now a.memory3.now a.marks3.now
 
 -- the row ends within the whole
-ends : (c : tie.After-slice-known8) → let a = (start c).args in a.k * (a.at + a.size) ≤ length a.memory.now
+ends : (c : tie.After-slice_known-8-1) → let a = (start c).args in a.k * (a.at + a.size) ≤ length a.memory.now
 ends c =
     let s = start c in
     let a = s.args in
-    row_end a.k (length a.memory.now) a.at a.size (ready_even a.k a.memory.now a.marks.now (board s) s.pre.2) s.pre.1
+    row_end a.k (length a.memory.now) a.at a.size (ready_even a.k a.memory.now a.marks.now (board s) s.requires.2) s.requires.1
 
-long : (c : tie.After-slice-known8) (whole : List ℕ) → length whole ≡ length (start c).args.memory.now
+long : (c : tie.After-slice_known-8-1) (whole : List ℕ) → length whole ≡ length (start c).args.memory.now
     → let s = start c in let a = s.args in
-    length (row_in a.k a.memory.now a.marks.now (board s) s.pre.2 a.at a.size s.pre.1 whole) ≡ a.k * a.size
+    length (row_in a.k a.memory.now a.marks.now (board s) s.requires.2 a.at a.size s.requires.1 whole) ≡ a.k * a.size
 long c whole e =
     let s = start c in
     let a = s.args in
-    cut_length a.k (length a.memory.now) a.at a.size (ready_even a.k a.memory.now a.marks.now (board s) s.pre.2) s.pre.1 whole e
+    cut_length a.k (length a.memory.now) a.at a.size (ready_even a.k a.memory.now a.marks.now (board s) s.requires.2) s.requires.1 whole e
 
 -- what is known of a chip's buffers and of its row
-same-lengths : (d : tie.After-rows-of) (c : ℕ) → c < 4
+same-lengths : (d : tie.After-rows_of-rows) (c : ℕ) → c < 4
     → let b = board (start (known d)) in length (chip_at b c).marks ≡ length (chip_at b c).memory
 same-lengths d c u = let r = (start (known d)).requires.2 in (r.shares c u).1 ∙ sym (r.shares c u).0
 
-asks : (d : tie.After-rows-of) (c : ℕ) → c < 4 → let s = start (known d) in let a = s.args in
+asks : (d : tie.After-rows_of-rows) (c : ℕ) → c < 4 → let s = start (known d) in let a = s.args in
     0 < length (chip_at (board s) c).memory
-    → (a.at + a.size ≤ length (chip_at (board s) c).memory) × (row16 (take a.size (get_or (get_or d.rows_of.result 1 []) c [])) ≡ false)
+    → (a.at + a.size ≤ length (chip_at (board s) c).memory) × (row16 (take a.size (get_or (get_or d.rows_of-rows.result 1 []) c [])) ≡ false)
 asks d c u =
     let s = start (known d) in
     let a = s.args in
-    put_asks a.k a.memory.now a.marks.now (board s) s.pre.2 a.at a.size s.pre.1 (get_or d.rows_of.result 1 []) d.rows_of.ensures.1 c u
+    put_asks a.k a.memory.now a.marks.now (board s) s.requires.2 a.at a.size s.requires.1 (get_or d.rows_of-rows.result 1 []) d.rows_of-rows.ensures.1 c u
 
-rows-of-requires : tie.Need-rows-of-requires
+rows-of-requires : tie.Need-rows_of-rows-requires
 rows-of-requires c κs =
     let k = c.before.before in
     let s = start k in
     let a = s.args in
-    (s.pre.0, s.pre.2.count, omega (arith, long k a.memory.now refl), omega (arith, long k a.marks.now s.pre.2.long))
+    (s.requires.0, s.requires.2.count, omega (arith, long k a.memory.now refl), omega (arith, long k a.marks.now s.requires.2.long))
 
-put-row-requires : tie.Need-put-row-requires
+put-row-requires : tie.Need-put_row-requires
 put-row-requires c κs = let d = rows c in ((start (known d)).requires.0, same-lengths d 0 (omega arith), asks d 0 (omega arith))
 
-put-row-requires-2 : tie.Need-put-row-requires-2
+put-row-requires-2 : tie.Need-put_row-requires-2
 put-row-requires-2 c κs = let d = rows (first c).before in ((start (known d)).requires.0, same-lengths d 1 (omega arith), asks d 1 (omega arith))
 
-put-row-requires-3 : tie.Need-put-row-requires-3
+put-row-requires-3 : tie.Need-put_row-requires-3
 put-row-requires-3 c κs = let d = rows (first (second c).before).before in ((start (known d)).requires.0, same-lengths d 2 (omega arith), asks d 2 (omega arith))
 
-put-row-requires-4 : tie.Need-put-row-requires-4
+put-row-requires-4 : tie.Need-put_row-requires-4
 put-row-requires-4 c κs = let d = rows (first (second (third c).before).before).before in ((start (known d)).requires.0, same-lengths d 3 (omega arith), asks d 3 (omega arith))
 
 returns : tie.Need-returns
@@ -97,21 +97,21 @@ returns c =
     let d = rows p₀.before in
     let s = start (known d) in
     let a = s.args in
-    let dealt = put_dealt a.k a.memory.now a.marks.now (board s) s.pre.2 a.at a.size s.pre.1 (get_or d.rows_of.result 1 []) d.rows_of.ensures.1 in
-    let cells = get_or d.rows_of.result 0 [] in
+    let dealt = put_dealt a.k a.memory.now a.marks.now (board s) s.requires.2 a.at a.size s.requires.1 (get_or d.rows_of-rows.result 1 []) d.rows_of-rows.ensures.1 in
+    let cells = get_or d.rows_of-rows.result 0 [] in
     let after : Board
-    = board_of p₀.put-row.last.0 p₀.put-row.last.1.0 p₁.put-row2.last.0 p₁.put-row2.last.1.0 p₂.put-row3.last.0 p₂.put-row3.last.1.0
-    p₃.put-row4.new.0 p₃.put-row4.new.1.0 in
+    = board_of p₀.put_row.new.memory p₀.put_row.new.marks p₁.put_row-2.new.memory p₁.put_row-2.new.marks p₂.put_row-3.new.memory p₂.put_row-3.new.marks
+    p₃.put_row-4.new.memory p₃.put_row-4.new.marks in
     by_four
     (λ n.
     Renewed (λ j. get_or a.memory.now (a.k * j + n) 0) (λ j. get_or a.marks.now (a.k * j + n) 0) a.at (a.at + a.size) (chip_at (board s) n) (chip_at after n))
-    (dealt 0 (omega arith) cells d.rows_of.ensures.0 after.first p₀.put-row.ensures)
-    (dealt 1 (omega arith) cells d.rows_of.ensures.0 after.second p₁.put-row2.ensures)
-    (dealt 2 (omega arith) cells d.rows_of.ensures.0 after.third p₂.put-row3.ensures)
-    (dealt 3 (omega arith) cells d.rows_of.ensures.0 after.fourth p₃.put-row4.ensures)
+    (dealt 0 (omega arith) cells d.rows_of-rows.ensures.0 after.first p₀.put_row.ensures)
+    (dealt 1 (omega arith) cells d.rows_of-rows.ensures.0 after.second p₁.put_row-2.ensures)
+    (dealt 2 (omega arith) cells d.rows_of-rows.ensures.0 after.third p₂.put_row-3.ensures)
+    (dealt 3 (omega arith) cells d.rows_of-rows.ensures.0 after.fourth p₃.put_row-4.ensures)
 
-pub deal-row-spec : {M : Type 1} → statement M
-deal-row-spec =
+pub deal_row_spec : {M : Type 1} → statement M
+deal_row_spec =
     tie.close
     (tie.spec
     (λ c. omega (arith, ends c))

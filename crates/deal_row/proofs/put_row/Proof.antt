@@ -13,11 +13,11 @@ use Rattle.deal_row.proofs.put_row.Statement.{statement}
 use Rattle.deal_row.proofs.put_row.Tie as tie
 
 -- a chip that is used has the row, and its flags are 0 or 1
-used : (c : tie.Else1) → let a = c.before.before.before.args in
+used : (c : tie.Else-memory-eq0) → let a = c.args in
     (a.at + a.size ≤ length a.memory.now) × (row16 (take a.size a.flags.now) ≡ false)
-used c = c.before.before.before.requires.2 (omega arith)
+used c = c.requires.2 (omega arith)
 
-receive-row-requires : tie.Need-receive-row-requires
+receive-row-requires : tie.Need-receive_row-requires
 receive-row-requires c κs =
     let e = c.before.before.before.before in
     let s = e.before.before.before in
@@ -28,7 +28,7 @@ receive-row-requires c κs =
     = lent_length a.marks.now a.at a.size (rw s.requires.1 u.0) in
     record { few = omega (arith, p); cells_long = omega (arith, p); flags_long = omega (arith, p); same = q ∙ sym p; clean = rw p u.1 }
 
-returns-2 : tie.Need-returns-2
+returns-2 : tie.Need-returns
 returns-2 c =
     let r = c.before.before.before.before in
     let e = r.before.before.before.before.before in
@@ -37,10 +37,10 @@ returns-2 c =
     let u = used e in
     let k : a.at + a.size - a.at ≡ a.size = add-sub_cancel_left a.at a.size in
     part_received a.memory.now a.marks.now a.cells.now a.flags.now a.at (a.at + a.size) (omega arith) u.0 s.requires.1
-    (omega (arith, k)) (omega (arith, k)) _ _ r.receive-row.ensures.0 r.receive-row.ensures.1
+    (omega (arith, k)) (omega (arith, k)) _ _ r.receive_row.ensures.0 r.receive_row.ensures.1
 
-pub put-row-spec : {M : Type 1} → statement M
-put-row-spec =
+pub put_row_spec : {M : Type 1} → statement M
+put_row_spec =
     tie.close
     (tie.spec
     (λ c. search rules)
@@ -50,7 +50,7 @@ put-row-spec =
     (λ c. omega (arith, (used c).0))
     (λ c. search rules)
     (λ c. search rules)
-    (λ c. omega (arith, (used c.before).0, c.before.before.before.before.requires.1))
+    (λ c. omega (arith, (used c.before).0, c.requires.1))
     receive-row-requires
     (λ c. search rules)
     (λ c. search rules)

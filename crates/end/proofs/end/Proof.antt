@@ -15,52 +15,51 @@ use Rattle.end.proofs.end.Statement.{statement}
 use Rattle.end.proofs.end.Tie as tie
 
 -- places: the state behind the end, and the call
-abbrev finished : tie.After-answer → tie.After-finish
+abbrev finished : tie.After-answer-loaded → tie.After-finish-last
 finished c = c.before.before.before.before.before
 
-abbrev call : tie.After-answer → tie.Start
+abbrev call : tie.After-answer-loaded → tie.Start
 call c = (finished c).before.before.before.before.before
 
 -- the answer of the state
-said : (c : tie.After-answer) → let a = (call c).args in
-    c.answer.result ≡ answered (end_as a.session.form (status_of a.session) (window_of a.base a.memory.now a.marks.now)).status
-said c = c.answer.ensures ∙ ap answered (finished c).finish.ensures.0
+said : (c : tie.After-answer-loaded) → let a = (call c).args in
+    c.answer-loaded.result ≡ answered (end_as a.session.form (status_of a.session) (window_of a.base a.memory.now a.marks.now)).status
+said c = c.answer-loaded.ensures ∙ ap answered (finished c).finish-last.ensures.0
 
 count-requires : tie.Need-count-requires
 count-requires c κs =
-    let t = c.before in
-    let j = t.before.before.before in
+    let j = c.before.before.before in
     let a = (call j).args in
     let form = a.session.form in
     let fits = allowed_in form (window_of a.base a.memory.now a.marks.now)
-    (ended_fits a.session a.base a.memory.now a.marks.now (sym (ap (λ (l : Loaded). l.refusal.reason) (said j)) ∙ t.if1.true)) in
-    omega (arith, (finished j).finish.auto.1.1.1.0, fits.0, fits.1, mark_bytes_few form (length a.memory.now))
+    (ended_fits a.session a.base a.memory.now a.marks.now (sym (ap (λ (l : Loaded). l.refusal.reason) (said j)) ∙ c.if-refusal-eq0.true)) in
+    omega (arith, (finished j).finish-last.auto.marks, fits.0, fits.1, mark_bytes_few form (length a.memory.now))
 
-returns : tie.Need-returns
+returns : tie.Need-returns-then-refusal-eq0
 returns c =
-    let t = c.before.before in
+    let t = c.before in
     let j = t.before.before.before in
-    let f = (finished j).finish in
+    let f = (finished j).finish-last in
     let e = f.ensures in
     let form = (call j).args.session.form in (
-      rw c.count.ensures (recounts form f.result f.last.1.1.1.0 j.answer.result j.answer.ensures t.if1.true)
+      rw c.count.ensures (recounts form f.result f.new.marks j.answer-loaded.result j.answer-loaded.ensures t.if-refusal-eq0.true)
           ∙ (λ i. answered_in form (e.0 i) (e.1.1.0 i)),
       e,
     )
 
-returns-2 : tie.Need-returns-2
+returns-2 : tie.Need-returns-else-refusal-eq0
 returns-2 c =
     let j = c.before.before.before in
-    let f = (finished j).finish in
+    let f = (finished j).finish-last in
     let e = f.ensures in
     let form = (call j).args.session.form in (
-      no_count form f.result f.last.1.1.1.0 j.answer.result j.answer.ensures c.if1.false
+      no_count form f.result f.new.marks j.answer-loaded.result j.answer-loaded.ensures c.if-refusal-eq0.false
           ∙ (λ i. answered_in form (e.0 i) (e.1.1.0 i)),
       e,
     )
 
-pub end-spec : {M : Type 1} → statement M
-end-spec =
+pub end_spec : {M : Type 1} → statement M
+end_spec =
     tie.close
     (tie.spec
     (λ c κs. search rules)

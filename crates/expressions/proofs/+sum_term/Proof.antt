@@ -54,145 +54,145 @@ sum-calls t = (term-below t, term.Post, is-sign-reads.Asked, is-sign-reads.Learn
 abbrev term-calls : ℕ → term-lts.Claims
 term-calls t = (number-reads.Asked, number-reads.Learnt, sum_below t, sum.Post, close-reads.Asked, close-reads.Learnt, is-letter-reads.Asked, is-letter-reads.Learnt, name-reads.Asked, name-reads.Learnt)
 
-abbrev sum-Inv-loop : sum-lts.invariant-loop
+abbrev sum-Inv-loop : sum-lts.invariant-loop-so_far
 sum-Inv-loop text table at left so-far₀ so_far = Going (symbols_in table) text left at so_far
 
-abbrev sum-μ-loop : sum-lts.decreases-loop
+abbrev sum-μ-loop : sum-lts.decreases-loop-so_far
 sum-μ-loop text table at left so-far₀ so_far = length text - so_far.next
 
-sum-term-requires : (t : ℕ) → sum-lts.Need-term-requires (sum-calls t) (sum_at_lem t) sum.Post sum-Inv-loop sum-μ-loop
+sum-term-requires : (t : ℕ) → sum-lts.Need-term-first-requires (sum-calls t) (sum_at_lem t) sum.Post sum-Inv-loop sum-μ-loop
 sum-term-requires t c κs = (omega arith, tt)
 
-sum-returns : (t : ℕ) → sum-lts.Need-returns (sum-calls t) (sum_at_lem t) sum.Post sum-Inv-loop sum-μ-loop
+sum-returns : (t : ℕ) → sum-lts.Need-returns-then-first-eq25 (sum-calls t) (sum_at_lem t) sum.Post sum-Inv-loop sum-μ-loop
 sum-returns t c =
     let m = c.before.before in
-    let a = m.before.before.before.args in
-    first_bad (symbols_in a.table.now) a.text.now a.left a.at m.term.result m.term.ensures c.if1.true
+    let a = m.args in
+    first_bad (symbols_in a.table.now) a.text.now a.left a.at m.term-first.result m.term-first.ensures c.if-first-eq25.true
 
-sum-loop-holds : (t : ℕ) → sum-lts.Need-loop-init (sum-calls t) (sum_at_lem t) sum.Post sum-Inv-loop sum-μ-loop
+sum-loop-holds : (t : ℕ) → sum-lts.Need-loop-so_far-init (sum-calls t) (sum_at_lem t) sum.Post sum-Inv-loop sum-μ-loop
 sum-loop-holds t c =
     let m = c.before.before in
-    let a = m.before.before.before.args in
-    first_going (symbols_in a.table.now) a.text.now a.left a.at m.term.result m.term.ensures c.if1.false
+    let a = m.args in
+    first_going (symbols_in a.table.now) a.text.now a.left a.at m.term-first.result m.term-first.ensures c.if-first-eq25.false
 
-sum-returns-2 : (t : ℕ) → sum-lts.Need-returns-2 (sum-calls t) (sum_at_lem t) sum.Post sum-Inv-loop sum-μ-loop
+sum-returns-2 : (t : ℕ) → sum-lts.Need-returns-then-text-i (sum-calls t) (sum_at_lem t) sum.Post sum-Inv-loop sum-μ-loop
 sum-returns-2 t c =
     let l = c.before in
-    let a = l.before.before.before.before.before.before.args in
-    sum_ends (symbols_in a.table.now) a.text.now a.left a.at l.loop.so_far l.loop.invariant (no_sign a.text.now l.loop.so_far.next c.if2.true)
+    let a = l.args in
+    sum_ends (symbols_in a.table.now) a.text.now a.left a.at l.loop-so_far.so_far l.loop-so_far.invariant (no_sign a.text.now l.loop-so_far.so_far.next c.if-text-i.true)
 
-sum-shared-slice-read-sign : (t : ℕ) → sum-lts.Need-shared-slice-read-sign (sum-calls t) (sum_at_lem t) sum.Post sum-Inv-loop sum-μ-loop
+sum-shared-slice-read-sign : (t : ℕ) → sum-lts.Need-bounds-text-i (sum-calls t) (sum_at_lem t) sum.Post sum-Inv-loop sum-μ-loop
 sum-shared-slice-read-sign t c = omega arith
 
-sum-is-sign-requires : (t : ℕ) → sum-lts.Need-is-sign-requires (sum-calls t) (sum_at_lem t) sum.Post sum-Inv-loop sum-μ-loop
+sum-is-sign-requires : (t : ℕ) → sum-lts.Need-is_sign-requires (sum-calls t) (sum_at_lem t) sum.Post sum-Inv-loop sum-μ-loop
 sum-is-sign-requires t c κs = tt
 
-sum-returns-3 : (t : ℕ) → sum-lts.Need-returns-3 (sum-calls t) (sum_at_lem t) sum.Post sum-Inv-loop sum-μ-loop
+sum-returns-3 : (t : ℕ) → sum-lts.Need-returns-then-not-is_sign (sum-calls t) (sum_at_lem t) sum.Post sum-Inv-loop sum-μ-loop
 sum-returns-3 t c =
     let l = c.before.before.before.before in
-    let a = l.before.before.before.before.before.before.args in
-    sum_ends (symbols_in a.table.now) a.text.now a.left a.at l.loop.so_far l.loop.invariant (sym c.before.is-sign.ensures ∙ not-true _ c.if3.true)
+    let a = l.args in
+    sum_ends (symbols_in a.table.now) a.text.now a.left a.at l.loop-so_far.so_far l.loop-so_far.invariant (sym c.is_sign.ensures ∙ c.if-not-is_sign.true)
 
-sum-add-term : (t : ℕ) → sum-lts.Need-overflow-add-term (sum-calls t) (sum_at_lem t) sum.Post sum-Inv-loop sum-μ-loop
+sum-add-term : (t : ℕ) → sum-lts.Need-overflow_add-i (sum-calls t) (sum_at_lem t) sum.Post sum-Inv-loop sum-μ-loop
 sum-add-term t c = omega arith
 
-sum-term-requires-2 : (t : ℕ) → sum-lts.Need-term-requires-2 (sum-calls t) (sum_at_lem t) sum.Post sum-Inv-loop sum-μ-loop
-sum-term-requires-2 t c κs = (omega (arith, c.before.before.before.before.loop.invariant.low), tt)
+sum-term-requires-2 : (t : ℕ) → sum-lts.Need-term-other-requires (sum-calls t) (sum_at_lem t) sum.Post sum-Inv-loop sum-μ-loop
+sum-term-requires-2 t c κs = (omega (arith, c.loop-so_far.invariant.low), tt)
 
-sum-returns-4 : (t : ℕ) → sum-lts.Need-returns-4 (sum-calls t) (sum_at_lem t) sum.Post sum-Inv-loop sum-μ-loop
+sum-returns-4 : (t : ℕ) → sum-lts.Need-returns-then-other-eq25 (sum-calls t) (sum_at_lem t) sum.Post sum-Inv-loop sum-μ-loop
 sum-returns-4 t c =
     let e = c.before.before.before in
     let l = e.before.before.before.before in
-    let a = l.before.before.before.before.before.before.args in
-    other_bad (symbols_in a.table.now) a.text.now a.left a.at l.loop.so_far l.loop.invariant e.before.before.before.if2.false (sym e.before.is-sign.ensures ∙ not-false _ e.if3.false)
-    c.before.before.term2.result c.before.before.term2.ensures c.if4.true
+    let a = l.args in
+    other_bad (symbols_in a.table.now) a.text.now a.left a.at l.loop-so_far.so_far l.loop-so_far.invariant e.if-text-i.false (sym e.is_sign.ensures ∙ e.if-not-is_sign.false)
+    c.term-other.result c.term-other.ensures c.if-other-eq25.true
 
-sum-join-requires : (t : ℕ) → sum-lts.Need-join-requires (sum-calls t) (sum_at_lem t) sum.Post sum-Inv-loop sum-μ-loop
+sum-join-requires : (t : ℕ) → sum-lts.Need-join-so_far-requires (sum-calls t) (sum_at_lem t) sum.Post sum-Inv-loop sum-μ-loop
 sum-join-requires t c κs = tt
 
 -- a turn of the loop
-turn : (t : ℕ) (c : sum-lts.After-join (sum-calls t) (sum_at_lem t) sum.Post sum-Inv-loop sum-μ-loop)
-    → (c.before.before.before.before.before.before.before.before.loop.so_far.next < c.join.result.next)
-    × Going (symbols_in c.before.before.before.before.before.before.before.before.before.before.before.before.before.before.args.table.now) c.before.before.before.before.before.before.before.before.before.before.before.before.before.before.args.text.now c.before.before.before.before.before.before.before.before.before.before.before.before.before.before.args.left c.before.before.before.before.before.before.before.before.before.before.before.before.before.before.args.at c.join.result
+turn : (t : ℕ) (c : sum-lts.After-join-so_far (sum-calls t) (sum_at_lem t) sum.Post sum-Inv-loop sum-μ-loop)
+    → (c.loop-so_far.so_far.next < c.join-so_far.result.next)
+    × Going (symbols_in c.args.table.now) c.args.text.now c.args.left c.args.at c.join-so_far.result
 turn t c =
     let e = c.before.before.before.before in
     let l = e.before.before.before.before in
-    let a = l.before.before.before.before.before.before.args in
-    goes_on (symbols_in a.table.now) a.text.now a.left a.at l.loop.so_far l.loop.invariant e.before.before.before.if2.false (sym e.before.is-sign.ensures ∙ not-false _ e.if3.false)
-    c.before.before.before.term2.result c.before.before.before.term2.ensures c.before.if4.false c.join.result c.join.ensures
+    let a = l.args in
+    goes_on (symbols_in a.table.now) a.text.now a.left a.at l.loop-so_far.so_far l.loop-so_far.invariant e.if-text-i.false (sym e.is_sign.ensures ∙ e.if-not-is_sign.false)
+    c.term-other.result c.term-other.ensures c.if-other-eq25.false c.join-so_far.result c.join-so_far.ensures
 
-sum-loop-less : (t : ℕ) → sum-lts.Need-loop-smaller (sum-calls t) (sum_at_lem t) sum.Post sum-Inv-loop sum-μ-loop
-sum-loop-less t c = omega (arith, (turn t c).0, c.before.before.before.before.before.before.before.if2.false)
+sum-loop-less : (t : ℕ) → sum-lts.Need-loop-so_far-smaller (sum-calls t) (sum_at_lem t) sum.Post sum-Inv-loop sum-μ-loop
+sum-loop-less t c = omega (arith, (turn t c).0, c.if-text-i.false)
 
-sum-loop-again : (t : ℕ) → sum-lts.Need-loop-preserved (sum-calls t) (sum_at_lem t) sum.Post sum-Inv-loop sum-μ-loop
+sum-loop-again : (t : ℕ) → sum-lts.Need-loop-so_far-preserved (sum-calls t) (sum_at_lem t) sum.Post sum-Inv-loop sum-μ-loop
 sum-loop-again t c = (turn t c).1
 
-term-returns : (t : ℕ) → term-lts.Need-returns (term-calls t) (term-at t) term.Post
+term-returns : (t : ℕ) → term-lts.Need-returns-then-text-at (term-calls t) (term-at t) term.Post
 term-returns t c =
-    let a = c.before.before.before.args in
-    term_end (symbols_in a.table.now) a.text.now a.left a.at c.if1.true
+    let a = c.args in
+    term_end (symbols_in a.table.now) a.text.now a.left a.at c.if-text-at.true
 
-term-shared-slice-read-c : (t : ℕ) → term-lts.Need-shared-slice-read-c (term-calls t) (term-at t) term.Post
+term-shared-slice-read-c : (t : ℕ) → term-lts.Need-bounds-text-at (term-calls t) (term-at t) term.Post
 term-shared-slice-read-c t c = omega arith
 
-term-add-number : (t : ℕ) → term-lts.Need-overflow-add-number (term-calls t) (term-at t) term.Post
+term-add-number : (t : ℕ) → term-lts.Need-overflow_add-at (term-calls t) (term-at t) term.Post
 term-add-number t c = omega arith
 
 term-number-requires : (t : ℕ) → term-lts.Need-number-requires (term-calls t) (term-at t) term.Post
 term-number-requires t c κs = omega arith
 
-term-returns-2 : (t : ℕ) → term-lts.Need-returns-2 (term-calls t) (term-at t) term.Post
+term-returns-2 : (t : ℕ) → term-lts.Need-returns-then-c-eq36 (term-calls t) (term-at t) term.Post
 term-returns-2 t c =
-    let a = c.before.before.before.before.before.before.args in
+    let a = c.args in
     let S = symbols_in a.table.now in
-    c.number.ensures ∙ number_any S a.text.now (a.at + 1) ∙ term_number S a.text.now a.left a.at c.before.if2.true
+    c.number.ensures ∙ number_any S a.text.now (a.at + 1) ∙ term_number S a.text.now a.left a.at c.if-c-eq36.true
 
-term-returns-3 : (t : ℕ) → term-lts.Need-returns-3 (term-calls t) (term-at t) term.Post
+term-returns-3 : (t : ℕ) → term-lts.Need-returns-then-left-eq0 (term-calls t) (term-at t) term.Post
 term-returns-3 t c =
-    let a = c.before.before.before.before.before.before.before.args in
-    term_deep (symbols_in a.table.now) a.text.now a.left a.at c.before.if3.true c.if4.true
+    let a = c.args in
+    term_deep (symbols_in a.table.now) a.text.now a.left a.at c.if-c-eq40.true c.if-left-eq0.true
 
-term-add-sum : (t : ℕ) → term-lts.Need-overflow-add-sum (term-calls t) (term-at t) term.Post
+term-add-sum : (t : ℕ) → term-lts.Need-overflow_add-at-then-c-eq40 (term-calls t) (term-at t) term.Post
 term-add-sum t c = omega arith
 
-term-sub-sum : (t : ℕ) → term-lts.Need-overflow-sub-sum (term-calls t) (term-at t) term.Post
-term-sub-sum t c = pos_of_ne-zero c.if4.false
+term-sub-sum : (t : ℕ) → term-lts.Need-overflow_sub-left (term-calls t) (term-at t) term.Post
+term-sub-sum t c = pos_of_ne-zero c.if-left-eq0.false
 
-term-sum-requires : (t : ℕ) → term-lts.Need-sum-requires (term-calls t) (term-at t) term.Post
+term-sum-requires : (t : ℕ) → term-lts.Need-sum-inner-requires (term-calls t) (term-at t) term.Post
 term-sum-requires t c κs = (omega arith, tt)
 
 term-close-requires : (t : ℕ) → term-lts.Need-close-requires (term-calls t) (term-at t) term.Post
 term-close-requires t c κs = tt
 
-term-returns-4 : (t : ℕ) → term-lts.Need-returns-4 (term-calls t) (term-at t) term.Post
+term-returns-4 : (t : ℕ) → term-lts.Need-returns-then-c-eq40 (term-calls t) (term-at t) term.Post
 term-returns-4 t c =
     let o = c.before.before in
-    let a = o.before.before.before.before.before.before.before.args in
+    let a = o.args in
     let S = symbols_in a.table.now in
-    c.close.ensures ∙ ap (closed a.text.now) c.before.sum.ensures ∙ closed_is S a.text.now (sum_at (a.left - 1) a.text.now (a.at + 1))
-    ∙ term_open S a.text.now a.left a.at o.before.if3.true o.if4.false
+    c.close.ensures ∙ ap (closed a.text.now) c.sum-inner.ensures ∙ closed_is S a.text.now (sum_at (a.left - 1) a.text.now (a.at + 1))
+    ∙ term_open S a.text.now a.left a.at o.if-c-eq40.true o.if-left-eq0.false
 
-term-is-letter-requires : (t : ℕ) → term-lts.Need-is-letter-requires (term-calls t) (term-at t) term.Post
+term-is-letter-requires : (t : ℕ) → term-lts.Need-is_letter-requires (term-calls t) (term-at t) term.Post
 term-is-letter-requires t c κs = tt
 
 term-name-requires : (t : ℕ) → term-lts.Need-name-requires (term-calls t) (term-at t) term.Post
 term-name-requires t c κs = omega arith
 
-term-returns-5 : (t : ℕ) → term-lts.Need-returns-5 (term-calls t) (term-at t) term.Post
+term-returns-5 : (t : ℕ) → term-lts.Need-returns-then-is_letter (term-calls t) (term-at t) term.Post
 term-returns-5 t c =
     let l = c.before.before in
-    let a = l.before.before.before.before.before.before.before.args in
+    let a = l.args in
     c.name.ensures
-    ∙ term_name (symbols_in a.table.now) a.text.now a.left a.at l.before.before.if2.false l.before.if3.false (sym l.is-letter.ensures ∙ c.before.if5.true)
+    ∙ term_name (symbols_in a.table.now) a.text.now a.left a.at l.if-c-eq36.false l.if-c-eq40.false (sym l.is_letter.ensures ∙ c.if-is_letter.true)
 
-term-returns-6 : (t : ℕ) → term-lts.Need-returns-6 (term-calls t) (term-at t) term.Post
+term-returns-6 : (t : ℕ) → term-lts.Need-returns (term-calls t) (term-at t) term.Post
 term-returns-6 t c =
     let l = c.before in
-    let a = l.before.before.before.before.before.before.before.args in
-    term_none (symbols_in a.table.now) a.text.now a.left a.at l.before.before.if2.false l.before.if3.false (sym l.is-letter.ensures ∙ c.if5.false)
+    let a = l.args in
+    term_none (symbols_in a.table.now) a.text.now a.left a.at l.if-c-eq36.false l.if-c-eq40.false (sym l.is_letter.ensures ∙ c.if-is_letter.false)
 
-pub +sum-term-spec : {M : Type 1} → statement M
-+sum-term-spec = close μ-sum μ-term (λ t. sum-lts.spec (sum-calls t)
+pub +sum_term_spec : {M : Type 1} → statement M
++sum_term_spec = close μ-sum μ-term (λ t. sum-lts.spec (sum-calls t)
     (sum_at_lem t)
     sum.Post
     sum-Inv-loop

@@ -4,16 +4,16 @@ use borrow.Author.Rules.{rules}
 use Rattle.formats.proofs.is_gap.Statement.{statement}
 use Rattle.formats.proofs.is_gap.Tie as tie
 
-returns : tie.Need-returns
+returns : tie.Need-returns-in-Records
 returns c =
-    let a = c.before.before.before.args in
-    gap_chosen a.format _ c.before.enum_told.given.1 a.c c.is-end.result c.is-end.ensures
+    let a = c.args in
+    gap_chosen a.format _ c.in-Records.is a.c c.is_end.result c.is_end.ensures
 
-returns-2 : tie.Need-returns-2
+returns-2 : tie.Need-returns-in-Tape
 returns-2 c =
-    let a = c.before.before.before.args in
-    gap_chosen a.format _ c.before.enum-told2.given.1 a.c c.is-pause.result c.is-pause.ensures
+    let a = c.args in
+    gap_chosen a.format _ c.in-Tape.is a.c c.is_pause.result c.is_pause.ensures
 
-pub is-gap-spec : {M : Type 1} → statement M
-is-gap-spec =
+pub is_gap_spec : {M : Type 1} → statement M
+is_gap_spec =
     tie.close (tie.spec (λ c. search rules) (λ c κs. search rules) (λ c. search rules) (λ c κs. search rules) returns returns-2)

@@ -5,20 +5,20 @@ use Rattle.formats.proofs.ChoiceLaws.{pause_last}
 use Rattle.formats.proofs.is_pause.Statement.{statement}
 use Rattle.formats.proofs.is_pause.Tie as tie
 
-returns : tie.Need-returns
+returns : tie.Need-returns-then-c-eq13
 unfolding is_gap
-returns c = simp (eq-eqb _ _ c.if1.true)
+returns c = simp (eq-eqb _ _ c.if-c-eq13.true)
 
-returns-2 : tie.Need-returns-2
+returns-2 : tie.Need-returns-then-c-eq10
 unfolding is_gap
-returns-2 c = simp (ne_eqb _ _ c.before.if1.false, eq-eqb _ _ c.if2.true)
+returns-2 c = simp (ne_eqb _ _ c.if-c-eq13.false, eq-eqb _ _ c.if-c-eq10.true)
 
-returns-3 : tie.Need-returns-3
+returns-3 : tie.Need-returns-then-c-eq0
 unfolding is_gap
-returns-3 c = simp (ne_eqb _ _ c.before.before.if1.false, ne_eqb _ _ c.before.if2.false, eq-eqb _ _ c.if3.true)
+returns-3 c = simp (ne_eqb _ _ c.if-c-eq13.false, ne_eqb _ _ c.if-c-eq10.false, eq-eqb _ _ c.if-c-eq0.true)
 
-returns-4 : tie.Need-returns-4
-returns-4 c = pause_last c.before.before.before.args.c c.before.before.if1.false c.before.if2.false c.if3.false
+returns-4 : tie.Need-returns
+returns-4 c = pause_last c.args.c c.if-c-eq13.false c.if-c-eq10.false c.if-c-eq0.false
 
-pub is-pause-spec : {M : Type 1} → statement M
-is-pause-spec = tie.close (tie.spec returns returns-2 returns-3 returns-4)
+pub is_pause_spec : {M : Type 1} → statement M
+is_pause_spec = tie.close (tie.spec returns returns-2 returns-3 returns-4)

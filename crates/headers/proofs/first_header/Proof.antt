@@ -12,30 +12,30 @@ use Rattle.headers.proofs.first_header.Statement.{statement}
 use Rattle.headers.proofs.first_header.Tie as tie
 
 -- the first record
-next_at : (c : tie.After-found) → Next is_end c.before.before.before.before.args.text.now 0 c.found.given.0.0 c.found.given.0.1.0
-next_at c = next_is is_end _ _ _ _ zero-le (sym c.found.given.1 ∙ c.before.before.next-line.ensures)
+next_at : (c : tie.In-At) → Next is_end c.args.text.now 0 c.in-At.from c.in-At.to
+next_at c = next_is is_end _ _ _ _ zero-le (sym c.in-At.is ∙ c.next_line-found.ensures)
 
-returns : tie.Need-returns
+returns : tie.Need-returns-in_default
 returns c =
-    let at-next-line = c.before.before.before in
+    let at-next-line = c.before.before in
     let at-args = at-next-line.before.before in
     c.no_header.ensures ∙ sym (ap (λ ls. header_of (first_header srec.part ls)) (next_none is_end at-args.args.text.now 0
-    (sym c.before.enum_told.given.1 ∙ at-next-line.next-line.ensures)))
+    (sym c.in_default.is ∙ at-next-line.next_line-found.ensures)))
 
-sub-header-in : tie.Need-overflow-sub-header-in
-sub-header-in c = omega (arith, (next_at c.before).some-chars)
+sub-header-in : tie.Need-slice_bounds-header_in-count
+sub-header-in c = omega (arith, (next_at c).some_chars)
 
-part-header-in-start : tie.Need-slice-bounds-header-in-start
-part-header-in-start c = omega (arith, (next_at c.before).some-chars, (next_at c.before).high)
+part-header-in-start : tie.Need-slice_bounds-header_in-start
+part-header-in-start c = omega (arith, (next_at c).some_chars, (next_at c).high)
 
-part-header-in-end : tie.Need-slice-bounds-header-in-end
-part-header-in-end c = omega (arith, (next_at c.before).high)
+part-header-in-end : tie.Need-slice_bounds-header_in-end
+part-header-in-end c = omega (arith, (next_at c).high)
 
-returns-2 : tie.Need-returns-2
-returns-2 c = c.header-in.ensures ∙ sym (ap (λ ls. header_of (first_header srec.part ls)) (next_at c.before.before.before).is)
+returns-2 : tie.Need-returns
+returns-2 c = c.header_in.ensures ∙ sym (ap (λ ls. header_of (first_header srec.part ls)) (next_at c.before.before).is)
 
-pub first-header-spec : {M : Type 1} → statement M
-first-header-spec =
+pub first_header_spec : {M : Type 1} → statement M
+first_header_spec =
     tie.close
     (tie.spec
     (λ c κs. search rules)

@@ -8,19 +8,19 @@ use borrow.Author.Rules.{rules}
 use Rattle.headers.proofs.header_of.Statement.{statement}
 use Rattle.headers.proofs.header_of.Tie as tie
 
-returns : tie.Need-returns
+returns : tie.Need-returns-in-Records
 returns c =
-    let a = c.before.before.before.before.args in
-    header_chosen a.format _ c.before.enum_told.given.1 a.text.now _ c.first-header.ensures
+    let a = c.args in
+    header_chosen a.format _ c.in-Records.is a.text.now _ c.first_header.ensures
 
-returns-2 : tie.Need-returns-2
+returns-2 : tie.Need-returns-in-Tape
 returns-2 c =
-    let a = c.before.before.before.before.args in
-    header_chosen a.format _ c.before.enum-told2.given.1 a.text.now _
+    let a = c.args in
+    header_chosen a.format _ c.in-Tape.is a.text.now _
     (c.no_header.ensures ∙ tape_untitled (lines is_gap 0 a.text.now))
 
-pub header-of-spec : {M : Type 1} → statement M
-header-of-spec =
+pub header_of_spec : {M : Type 1} → statement M
+header_of_spec =
     tie.close
     (tie.spec
     (λ c. search rules)

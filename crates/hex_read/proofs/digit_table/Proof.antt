@@ -9,5 +9,5 @@ returns : tie.Need-returns
 unfolding digit_table weight is_hex value between
 returns c = refl
 
-pub digit-table-spec : {M : Type 1} → statement M
-digit-table-spec = tie.close (tie.spec returns)
+pub digit_table_spec : {M : Type 1} → statement M
+digit_table_spec = tie.close (tie.spec returns)

@@ -12,34 +12,34 @@ use borrow.Author.Rules.{rules}
 use Rattle.hex_read.proofs.first_bad.Statement.{statement}
 use Rattle.hex_read.proofs.first_bad.Tie as tie
 
-abbrev invariant-loop : tie.invariant-loop
+abbrev invariant-loop : tie.invariant-loop-i
 invariant-loop chars i₀ i = (i ≤ length chars) × (i + first_bad (drop i chars) ≡ first_bad chars)
 
-abbrev decreases-loop : tie.decreases-loop
+abbrev decreases-loop : tie.decreases-loop-i
 decreases-loop chars i₀ i = length chars - i
 
-loop-holds : tie.Need-loop-init invariant-loop decreases-loop
+loop-holds : tie.Need-loop-i-init invariant-loop decreases-loop
 loop-holds c = (omega arith, zero-add _)
 
-returns : tie.Need-returns invariant-loop decreases-loop
+returns : tie.Need-returns-then-digit_of-eq16 invariant-loop decreases-loop
 returns c =
     let l = c.before.before.before.before in
     let t = l.before.before.args.chars.now in
-    let h : is_hex (get_or t l.loop.i 0) ≡ false = hex_none _ (sym c.before.digit-of.ensures ∙ c.if1.true) in
-    sym (at_stop first_bad t l.loop.i (omega arith) (λ rest. rw h)) ∙ l.loop.invariant.1
+    let h : is_hex (get_or t l.loop-i.i 0) ≡ false = hex_none _ (sym c.before.digit_of.ensures ∙ c.if-digit_of-eq16.true) in
+    sym (at_stop first_bad t l.loop-i.i (omega arith) (λ rest. rw h)) ∙ l.loop-i.invariant.1
 
-loop-again : tie.Need-loop-preserved invariant-loop decreases-loop
+loop-again : tie.Need-loop-i-preserved invariant-loop decreases-loop
 loop-again c =
     let l = c.before.before.before.before in
     let t = l.before.before.args.chars.now in
-    let h : is_hex (get_or t l.loop.i 0) ≡ true = hex_some _ (λ z. c.if1.false (c.before.digit-of.ensures ∙ z)) in
-    (omega arith, at_step first_bad first_bad t l.loop.i (omega arith) (λ rest. rw h) ∙ l.loop.invariant.1)
+    let h : is_hex (get_or t l.loop-i.i 0) ≡ true = hex_some _ (λ z. c.if-digit_of-eq16.false (c.before.digit_of.ensures ∙ z)) in
+    (omega arith, at_step first_bad first_bad t l.loop-i.i (omega arith) (λ rest. rw h) ∙ l.loop-i.invariant.1)
 
-returns-2 : tie.Need-returns-2 invariant-loop decreases-loop
-returns-2 c = sym (at_end first_bad _ c.before.loop.i refl c.loop-test.false) ∙ c.before.loop.invariant.1
+returns-2 : tie.Need-returns invariant-loop decreases-loop
+returns-2 c = sym (at_end first_bad _ c.before.loop-i.i refl c.loop-i-test.false) ∙ c.before.loop-i.invariant.1
 
-pub first-bad-spec : {M : Type 1} → statement M
-first-bad-spec =
+pub first_bad_spec : {M : Type 1} → statement M
+first_bad_spec =
     tie.close
     (tie.spec
     invariant-loop

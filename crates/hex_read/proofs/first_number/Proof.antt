@@ -19,8 +19,8 @@ returns c =
     ap (λ (n : ℕ). n / 2 ^ (8 * (4 - x.width))) (by_two x.a x.b x.c x.d)
     ∙ leading x.a x.b x.c x.d x.width (omega arith) (omega arith) (omega arith) c.requires.0 c.requires.1
 
-pub first-number-spec : {M : Type 1} → statement M
-first-number-spec =
+pub first_number_spec : {M : Type 1} → statement M
+first_number_spec =
     tie.close
     (tie.spec
     (λ c. search rules)

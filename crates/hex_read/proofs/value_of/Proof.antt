@@ -9,5 +9,5 @@ use Rattle.hex_read.proofs.value_of.Tie as tie
 returns : tie.Need-returns
 returns c = let h : c.args.c < 256 = omega arith in (λ e. value_by_bits c.args.c h e, omega arith)
 
-pub value-of-spec : {M : Type 1} → statement M
-value-of-spec = tie.close (tie.spec (λ c. search rules) (λ c. search rules) returns)
+pub value_of_spec : {M : Type 1} → statement M
+value_of_spec = tie.close (tie.spec (λ c. search rules) (λ c. search rules) returns)

@@ -17,36 +17,36 @@ use Rattle.hex_store.proofs.block_of.Tie as tie
 abbrev zeros : List ℕ
 zeros = replicate 16 0
 
-abbrev invariant-loop : tie.invariant-loop
+abbrev invariant-loop : tie.invariant-loop-k
 invariant-loop chars block₀ k₀ block k = (k ≤ 16) × (block ≡ take k (bytes chars) ++ drop k zeros)
 
-abbrev decreases-loop : tie.decreases-loop
+abbrev decreases-loop : tie.decreases-loop-k
 decreases-loop chars block₀ k₀ block k = 16 - k
 
-loop-holds : tie.Need-loop-init invariant-loop decreases-loop
+loop-holds : tie.Need-loop-k-init invariant-loop decreases-loop
 loop-holds c = (omega arith, refl)
 
-loop-again : tie.Need-loop-preserved invariant-loop decreases-loop
+loop-again : tie.Need-loop-k-preserved invariant-loop decreases-loop
 loop-again c =
-    let l = c.before.before.before.before.before.loop in
+    let l = c.before.before.before.before.before.loop-k in
     let s = c.before.before.before.before.before.before.before in
     let t = s.args.chars.now in
     let h : l.k < length zeros = omega arith in
     let first : 2 * l.k < length t = omega (arith, s.requires.0) in
     let second : 2 * l.k + 1 < length t = omega (arith, s.requires.0) in
-    let high = c.before.before.value_of_lem.ensures.0 (digit_in t (2 * l.k) s.requires.1 first) in
-    let low = c.value-of2.ensures.0 (digit_in t (2 * l.k + 1) s.requires.1 second) in
+    let high = c.before.before.value_of.ensures.0 (digit_in t (2 * l.k) s.requires.1 first) in
+    let low = c.value_of-in-loop-k.ensures.0 (digit_in t (2 * l.k + 1) s.requires.1 second) in
     (omega arith, rw (l.invariant.1, high, low) (store_turn t zeros l.k s.requires.0 h))
 
 returns : tie.Need-returns invariant-loop decreases-loop
 returns c =
-    let l = c.before.loop in
+    let l = c.before.loop-k in
     let s = c.before.before.before in
     let e : l.k ≡ 16 = omega arith in
     l.invariant.1 ∙ rw (e, append-nil) (take_all 16 (bytes s.args.chars.now) (omega (arith, length_bytes 16 s.args.chars.now s.requires.0)))
 
-pub block-of-spec : {M : Type 1} → statement M
-block-of-spec =
+pub block_of_spec : {M : Type 1} → statement M
+block_of_spec =
     tie.close
     (tie.spec
     invariant-loop

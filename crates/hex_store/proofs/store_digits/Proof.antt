@@ -15,19 +15,19 @@ use borrow.Author.Rules.{rules}
 use Rattle.hex_store.proofs.store_digits.Statement.{statement}
 use Rattle.hex_store.proofs.store_digits.Tie as tie
 
-abbrev invariant-loop : tie.invariant-loop
+abbrev invariant-loop : tie.invariant-loop-i
 invariant-loop table part₀ chars n i₀ part i = (i ≤ length part₀) × (length part ≡ length part₀) × (part ≡ take i (bytes chars) ++ drop i part₀)
 
-abbrev decreases-loop : tie.decreases-loop
+abbrev decreases-loop : tie.decreases-loop-i
 decreases-loop table part₀ chars n i₀ part i = length part₀ - i
 
-loop-holds : tie.Need-loop-init invariant-loop decreases-loop
+loop-holds : tie.Need-loop-i-init invariant-loop decreases-loop
 loop-holds c = (omega arith, refl, refl)
 
-store-block-requires : tie.Need-store-block-requires invariant-loop decreases-loop
+store-block-requires : tie.Need-store_block-requires invariant-loop decreases-loop
 store-block-requires c κs =
     let at-loop = c.before.before.before in
-    let l = at-loop.loop in
+    let l = at-loop.loop-i in
     let s = at-loop.before.before.before in
     let e : l.i + 16 - l.i ≡ 16 = omega arith in
     let f : 2 * (l.i + 16) - 2 * l.i ≡ 32 = omega arith in (
@@ -36,22 +36,22 @@ store-block-requires c κs =
       digits_part (2 * (l.i + 16) - 2 * l.i) (2 * l.i) s.args.chars.now s.requires.2,
     )
 
-loop-again : tie.Need-loop-preserved invariant-loop decreases-loop
+loop-again : tie.Need-loop-i-preserved invariant-loop decreases-loop
 loop-again c =
     let at-store-block = c.before.before in
     let at-loop = at-store-block.before.before.before.before in
-    let l = at-loop.loop in
+    let l = at-loop.loop-i in
     let s = at-loop.before.before.before in (
       omega arith,
-      same_len_mid l.i (l.i + 16 - l.i) l.part at-store-block.store-block.new.0 at-store-block.store-block.auto.0 ∙ l.invariant.1,
+      same_len_mid l.i (l.i + 16 - l.i) l.part at-store-block.store_block.new.part at-store-block.store_block.auto.part ∙ l.invariant.1,
       rw l.invariant.2 (block_turn s.args.chars.now s.args.part.now l.i (l.i + 16) _ s.requires.1 (omega arith) (omega arith)
-          at-store-block.store-block.ensures),
+          at-store-block.store_block.ensures),
     )
 
-store-pairs-requires : tie.Need-store-pairs-requires invariant-loop decreases-loop
+store-pairs-requires : tie.Need-store_pairs-requires invariant-loop decreases-loop
 store-pairs-requires c κs =
     let at-loop = c.before.before.before in
-    let l = at-loop.loop in
+    let l = at-loop.loop-i in
     let s = at-loop.before.before.before in
     let n = length s.args.part.now in
     let e : 2 * n - 2 * l.i ≡ 2 * (n - l.i) = omega arith in (
@@ -64,16 +64,16 @@ returns : tie.Need-returns invariant-loop decreases-loop
 returns c =
     let at-store-pairs = c.before.before in
     let at-loop = at-store-pairs.before.before.before.before in
-    let l = at-loop.loop in
+    let l = at-loop.loop-i in
     let s = at-loop.before.before.before in
     let t = s.args.chars.now in
     let d = s.args.part.now in
     let all_of : take (length d) (bytes t) ++ drop (length d) d ≡ bytes t
     = rw (drop-length, append-nil) (take_all (length d) (bytes t) (omega (arith, length_bytes (length d) t s.requires.1))) in
-    rw l.invariant.2 (block_turn t d l.i (length d) _ s.requires.1 (omega arith) (omega arith) at-store-pairs.store-pairs.ensures ∙ all_of)
+    rw l.invariant.2 (block_turn t d l.i (length d) _ s.requires.1 (omega arith) (omega arith) at-store-pairs.store_pairs.ensures ∙ all_of)
 
-pub store-digits-spec : {M : Type 1} → statement M
-store-digits-spec =
+pub store_digits_spec : {M : Type 1} → statement M
+store_digits_spec =
     tie.close
     (tie.spec
     invariant-loop

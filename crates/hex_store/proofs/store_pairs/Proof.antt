@@ -12,20 +12,20 @@ use borrow.Author.Rules.{rules}
 use Rattle.hex_store.proofs.store_pairs.Statement.{statement}
 use Rattle.hex_store.proofs.store_pairs.Tie as tie
 
-abbrev invariant-loop : tie.invariant-loop
+abbrev invariant-loop : tie.invariant-loop-k
 invariant-loop table part₀ chars k₀ part k = (k ≤ length part₀) × (length part ≡ length part₀) × (part ≡ take k (bytes chars) ++ drop k part₀)
 
-abbrev decreases-loop : tie.decreases-loop
+abbrev decreases-loop : tie.decreases-loop-k
 decreases-loop table part₀ chars k₀ part k = length part₀ - k
 
-loop-holds : tie.Need-loop-init invariant-loop decreases-loop
+loop-holds : tie.Need-loop-k-init invariant-loop decreases-loop
 loop-holds c = (omega arith, refl, refl)
 
-loop-again : tie.Need-loop-preserved invariant-loop decreases-loop
+loop-again : tie.Need-loop-k-preserved invariant-loop decreases-loop
 loop-again c =
     let at-loop = c.before.before.before.before in
     let at-args = at-loop.before.before.before in
-    let l = at-loop.loop in
+    let l = at-loop.loop-k in
     let a = at-args.args in (
       omega arith,
       simp length-set l.invariant.1,
@@ -36,14 +36,14 @@ loop-again c =
 returns : tie.Need-returns invariant-loop decreases-loop
 returns c =
     let at-args = c.before.before.before.before in
-    let l = c.before.loop in
+    let l = c.before.loop-k in
     let a = at-args.args in
     let e : l.k ≡ length a.part.now = omega arith in
     l.invariant.2 ∙ rw (e, drop-length, append-nil) (take_all (length a.part.now) (bytes a.chars.now)
     (omega (arith, length_bytes (length a.part.now) a.chars.now (omega arith))))
 
-pub store-pairs-spec : {M : Type 1} → statement M
-store-pairs-spec =
+pub store_pairs_spec : {M : Type 1} → statement M
+store_pairs_spec =
     tie.close
     (tie.spec
     invariant-loop

@@ -15,7 +15,7 @@ returns : tie.Need-returns
 returns c e =
     let s = c.before.before.before.before in
     let cs = s.args.chars.now in
-    let d = c.has-fault.ensures (not_true _ e) in
+    let d = c.has_fault.ensures (not_true _ e) in
     digits_join 16 cs d.0 (whole cs s.requires d.1)
   where
     whole : (cs : List ℕ) → length cs ≡ 32 → Digits (take 16 (drop 16 cs)) → Digits (drop 16 cs)
@@ -23,8 +23,8 @@ returns c e =
         let e : 16 ≡ length cs - 16 = omega arith in
         subst Digits (ap (λ (k : ℕ). take k (drop 16 cs)) e ∙ rest 16 cs) d
 
-pub are-digits-spec : {M : Type 1} → statement M
-are-digits-spec =
+pub are_digits_spec : {M : Type 1} → statement M
+are_digits_spec =
     tie.close
     (tie.spec
     (λ c. search rules)

@@ -8,5 +8,5 @@ use Rattle.hex_sum.proofs.is_fault.Tie as tie
 returns : tie.Need-returns
 returns c = let h : c.args.c < 256 = omega arith in fault_by_ranges c.args.c h
 
-pub is-fault-spec : {M : Type 1} → statement M
-is-fault-spec = tie.close (tie.spec returns)
+pub is_fault_spec : {M : Type 1} → statement M
+is_fault_spec = tie.close (tie.spec returns)

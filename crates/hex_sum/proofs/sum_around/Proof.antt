@@ -15,41 +15,41 @@ use Rattle.hex_sum.proofs.sum_around.Statement.{statement}
 use Rattle.hex_sum.proofs.sum_around.Tie as tie
 
 -- the call, from each of its own
-abbrev at-weigh : tie.After-weigh-arg → tie.Start
-at-weigh c = c.before.before.before
+abbrev at-weigh : tie.After-shared_slice_known-2-1 → tie.Start
+at-weigh c = c.before.before
 
-abbrev at_rest : tie.After-sum-rest → tie.Start
-at_rest c = c.before.before.before.before.before.before
+abbrev at_rest : tie.After-sum_rest-last → tie.Start
+at_rest c = c.before.before.before.before.before
 
-two : (c : tie.After-weigh-arg) → length (take 2 (at-weigh c).args.chars.now) ≡ 2
+two : (c : tie.After-shared_slice_known-2-1) → length (take 2 (at-weigh c).args.chars.now) ≡ 2
 two c = length-take-le 2 (at-weigh c).args.chars.now (omega (arith, (at-weigh c).requires.0.1))
 
-sixteen : (c : tie.After-sum-rest) → length (at_rest c).args.block.now ≡ 16
+sixteen : (c : tie.After-sum_rest-last) → length (at_rest c).args.block.now ≡ 16
 sixteen c =
     let s = at_rest c in
     let cs = s.args.chars.now in
-    ap length s.pre.1.1
-    ∙ length_bytes 16 (take 32 (drop 2 cs)) (length-take-le 32 (drop 2 cs) (omega (arith, length-drop 2 cs, s.pre.0.1)))
+    ap length s.requires.1.1
+    ∙ length_bytes 16 (take 32 (drop 2 cs)) (length-take-le 32 (drop 2 cs) (omega (arith, length-drop 2 cs, s.requires.0.1)))
 
-add-result : tie.Need-overflow-add-result
-add-result c = record { fits = omega (arith, sixteen c.before, c.sum-bytes.ensures.1, c.before.sum-rest.ensures.1) }
+add-result : tie.Need-overflow_add-result
+add-result c = record { fits = omega (arith, sixteen c.before, c.sum_bytes.ensures.1, c.sum_rest-last.ensures.1) }
 
-add-result-2 : tie.Need-overflow-add-result-2
+add-result-2 : tie.Need-overflow_add-result-2
 add-result-2 c =
     let first = c.before.before.before in
-    record { fits = omega (arith, sixteen c.before, c.sum-bytes.ensures.1, c.before.sum-rest.ensures.1, first.weigh.ensures.1, two first.before) }
+    record { fits = omega (arith, sixteen c.before, c.sum_bytes.ensures.1, c.sum_rest-last.ensures.1, first.weigh-first.ensures.1, two first.before) }
 
 returns : tie.Need-returns
 returns c =
     let r = c.before in
     let s = at_rest r in
     let cs = s.args.chars.now in
-    rw r.before.before.weigh.ensures.0
-    (around_tells cs c.sum-bytes.result r.sum-rest.result s.pre.0.1 s.pre.1.0 (c.sum-bytes.ensures.0 ∙ ap sum s.pre.1.1)
-    (subst (Tells r.sum-rest.result) (rest 34 cs) r.sum-rest.ensures.0))
+    rw r.weigh-first.ensures.0
+    (around_tells cs c.sum_bytes.result r.sum_rest-last.result s.requires.0.1 s.requires.1.0 (c.sum_bytes.ensures.0 ∙ ap sum s.requires.1.1)
+    (subst (Tells r.sum_rest-last.result) (rest 34 cs) r.sum_rest-last.ensures.0))
 
-pub sum-around-spec : {M : Type 1} → statement M
-sum-around-spec =
+pub sum_around_spec : {M : Type 1} → statement M
+sum_around_spec =
     tie.close
     (tie.spec
     (λ c. sym (two c))

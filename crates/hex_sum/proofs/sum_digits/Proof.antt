@@ -12,53 +12,53 @@ use borrow.Author.Rules.{rules}
 use Rattle.hex_sum.proofs.sum_digits.Statement.{statement}
 use Rattle.hex_sum.proofs.sum_digits.Tie as tie
 
-abbrev invariant-loop : tie.invariant-loop
+abbrev invariant-loop : tie.invariant-loop-i
 invariant-loop table chars n sum₀ i₀ sum i =
     (i ≤ length chars) × (i % 2 ≡ 0) × (sum ≤ 4096 * i) × ((t : ℕ) → Tells t (drop i chars) → Tells (sum + t) chars)
 
-abbrev decreases-loop : tie.decreases-loop
+abbrev decreases-loop : tie.decreases-loop-i
 decreases-loop table chars n sum₀ i₀ sum i = length chars - i
 
-loop-holds : tie.Need-loop-init invariant-loop decreases-loop
+loop-holds : tie.Need-loop-i-init invariant-loop decreases-loop
 loop-holds c = (omega arith, omega arith, omega arith, λ t p. rw (zero-add t) p)
 
-sum-block-requires : tie.Need-sum-block-requires invariant-loop decreases-loop
+sum-block-requires : tie.Need-sum_block-sum-requires invariant-loop decreases-loop
 sum-block-requires c κs =
-    let l = c.before.before.loop in
-    lent_length c.before.before.before.before.args.chars.now l.i 32 (omega arith)
+    let l = c.loop-i in
+    lent_length c.args.chars.now l.i 32 (omega arith)
 
-loop-again : tie.Need-loop-preserved invariant-loop decreases-loop
+loop-again : tie.Need-loop-i-preserved invariant-loop decreases-loop
 loop-again c =
     let at-loop = c.before.before.before in
-    let l = at-loop.loop in
-    let b = c.sum-block.ensures in
-    let t = at-loop.before.before.args.chars.now in
-    let p : Tells c.sum-block.result (take 32 (drop l.i t)) = rw add-sub_cancel_left at b.0 in
-    (omega arith, omega arith, omega (arith, b.1), block_turn t l.i l.sum c.sum-block.result p l.invariant.3)
+    let l = at-loop.loop-i in
+    let b = c.sum_block-sum.ensures in
+    let t = at-loop.args.chars.now in
+    let p : Tells c.sum_block-sum.result (take 32 (drop l.i t)) = rw add-sub_cancel_left at b.0 in
+    (omega arith, omega arith, omega (arith, b.1), block_turn t l.i l.sum c.sum_block-sum.result p l.invariant.3)
 
 -- what is left behind the blocks
-left-long : (c : tie.After-weigh-arg invariant-loop decreases-loop) → let l = c.before.before.loop in let t = c.before.before.before.before.args.chars.now in
+left-long : (c : tie.After-weigh-arg-1 invariant-loop decreases-loop) → let l = c.loop-i in let t = c.args.chars.now in
     length (take (length t - l.i) (drop l.i t)) ≡ length t - l.i
-left-long c = part_long c.before.before.before.before.args.chars.now c.before.before.loop.i _ (omega arith) (omega arith)
+left-long c = part_long c.args.chars.now c.loop-i.i _ (omega arith) (omega arith)
 
 weigh-requires : tie.Need-weigh-requires invariant-loop decreases-loop
 weigh-requires c κs = (search rules, omega (arith, left-long c))
 
-add-result : tie.Need-overflow-add-result invariant-loop decreases-loop
+add-result : tie.Need-overflow_add-result invariant-loop decreases-loop
 add-result c = record { fits = omega (arith, c.weigh.ensures.1, left-long c.before) }
 
 returns : tie.Need-returns invariant-loop decreases-loop
 returns c =
     let at-loop = c.before.before.before in
-    let l = at-loop.loop in
+    let l = at-loop.loop-i in
     let s = at-loop.before.before in
     let t = s.args.chars.now in
     let w : c.weigh.result ≡ weighed (drop l.i t) = c.weigh.ensures.0 ∙ ap weighed (rest l.i t) in
     let even : length (drop l.i t) % 2 ≡ 0 = omega (arith, length-drop l.i t, s.requires.2, l.invariant.1) in
     (l.invariant.3 c.weigh.result (rw w (weight_tells (drop l.i t) even)), omega (arith, c.weigh.ensures.1, left-long c.before))
 
-pub sum-digits-spec : {M : Type 1} → statement M
-sum-digits-spec =
+pub sum_digits_spec : {M : Type 1} → statement M
+sum_digits_spec =
     tie.close
     (tie.spec
     invariant-loop

@@ -18,44 +18,44 @@ use Rattle.hex_write.proofs.block_of.Tie as tie
 abbrev zeros : List ℕ
 zeros = replicate 32 0
 
-abbrev invariant-loop : tie.invariant-loop
+abbrev invariant-loop : tie.invariant-loop-k
 invariant-loop bytes block₀ k₀ block k = (k ≤ 16) × (block ≡ over zeros 0 (digits_of (take k bytes)))
 
-abbrev decreases-loop : tie.decreases-loop
+abbrev decreases-loop : tie.decreases-loop-k
 decreases-loop bytes block₀ k₀ block k = 16 - k
 
-loop-holds : tie.Need-loop-init invariant-loop decreases-loop
+loop-holds : tie.Need-loop-k-init invariant-loop decreases-loop
 loop-holds c = (omega arith, sym (over_none zeros 0))
 
 -- the byte at hand is a byte
-byte : (c : tie.After-pair-of invariant-loop decreases-loop)
-    → let k = c.before.before.before.loop.k in get_or c.before.before.before.before.before.args.bytes.now k 0 < 256
-byte c = omega (arith, c.before.shared-slice-known2.given c.before.before.before.loop.k)
+byte : (c : tie.After-pair_of-pair invariant-loop decreases-loop)
+    → let k = c.loop-k.k in get_or c.args.bytes.now k 0 < 256
+byte c = omega (arith, c.shared_slice_known-in-loop-k-1.given c.loop-k.k)
 
-shared-slice-read-pair-of : tie.Need-shared-slice-read-pair-of invariant-loop decreases-loop
-shared-slice-read-pair-of c = omega (arith, c.before.before.before.before.requires)
+shared-slice-read-pair-of : tie.Need-bounds-bytes-k invariant-loop decreases-loop
+shared-slice-read-pair-of c = omega (arith, c.requires)
 
-cast-block-2 : tie.Need-overflow-cast-block-2 invariant-loop decreases-loop
-cast-block-2 c = omega (arith, (second_digit _ _ (byte c) c.pair_of.ensures).1)
+cast-block-2 : tie.Need-overflow_cast-block-in-loop-k invariant-loop decreases-loop
+cast-block-2 c = omega (arith, (second_digit _ _ (byte c) c.pair_of-pair.ensures).1)
 
-loop-again : tie.Need-loop-preserved invariant-loop decreases-loop
+loop-again : tie.Need-loop-k-preserved invariant-loop decreases-loop
 loop-again c =
-    let l = c.before.before.before.loop in
-    let s = c.before.before.before.before.before in
+    let l = c.loop-k in
+    let s = c.before in
     let bytes = s.args.bytes.now in
-    let first = first_digit _ _ (byte c) c.pair_of.ensures in
-    let second = (second_digit _ _ (byte c) c.pair_of.ensures).0 in
+    let first = first_digit _ _ (byte c) c.pair_of-pair.ensures in
+    let second = (second_digit _ _ (byte c) c.pair_of-pair.ensures).0 in
     (omega arith, rw (l.invariant.1, first, second) (block_turn zeros bytes l.k (omega (arith, s.requires)) (omega (arith, s.requires))))
 
 returns : tie.Need-returns invariant-loop decreases-loop
 returns c =
-    let l = c.before.loop in
-    let s = c.before.before.before in
+    let l = c.loop-k in
+    let s = c.before in
     let bytes = s.args.bytes.now in
     l.invariant.1 ∙ rw (take_all l.k bytes (omega (arith, s.requires))) (over_all zeros (digits_of bytes) (omega (arith, length_pairs bytes, s.requires)))
 
-pub block-of-spec : {M : Type 1} → statement M
-block-of-spec =
+pub block_of_spec : {M : Type 1} → statement M
+block_of_spec =
     tie.close
     (tie.spec
     invariant-loop

@@ -5,13 +5,13 @@ use Rattle.hex_digits.specs.Digits.{digit}
 use Rattle.hex_write.proofs.digit_for.Statement.{statement}
 use Rattle.hex_write.proofs.digit_for.Tie as tie
 
-returns : tie.Need-returns
+returns : tie.Need-returns-then-n-lt10
 unfolding digit
-returns c = rw (lt-ltb _ _ c.if1.true)
+returns c = rw (lt-ltb _ _ c.if-n-lt10.true)
 
-returns-2 : tie.Need-returns-2
+returns-2 : tie.Need-returns-else-n-lt10
 unfolding digit
-returns-2 c = rw (le-ltb _ _ c.if1.false)
+returns-2 c = rw (le-ltb _ _ c.if-n-lt10.false)
 
-pub digit-for-spec : {M : Type 1} → statement M
-digit-for-spec = tie.close (tie.spec (λ c. search rules) (λ c. search rules) returns returns-2)
+pub digit_for_spec : {M : Type 1} → statement M
+digit_for_spec = tie.close (tie.spec (λ c. search rules) (λ c. search rules) returns returns-2)

@@ -7,17 +7,17 @@ use Rattle.hex_write.proofs.BlockLaws.{halves, pair_by_bits}
 use Rattle.hex_write.proofs.pair_of.Statement.{statement}
 use Rattle.hex_write.proofs.pair_of.Tie as tie
 
-mul-result : tie.Need-overflow-mul-result
+mul-result : tie.Need-overflow_mul-result
 mul-result c = record { fits = omega (arith, and_le_r ((halves c.args.byte + 1542) / 16) 257) }
 
-add-result-3 : tie.Need-overflow-add-result-3
+add-result-3 : tie.Need-overflow_add-result-3
 add-result-3 c = record { fits = omega (arith, and_le_r ((halves c.args.byte + 1542) / 16) 257) }
 
 returns : tie.Need-returns
 returns c = let h : c.args.byte < 256 = omega arith in pair_by_bits c.args.byte h
 
-pub pair-of-spec : {M : Type 1} → statement M
-pair-of-spec =
+pub pair_of_spec : {M : Type 1} → statement M
+pair_of_spec =
     tie.close
     (tie.spec
     (λ c. search rules)

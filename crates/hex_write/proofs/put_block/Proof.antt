@@ -13,37 +13,37 @@ use borrow.Author.Rules.{rules}
 use Rattle.hex_write.proofs.put_block.Statement.{statement}
 use Rattle.hex_write.proofs.put_block.Tie as tie
 
-abbrev invariant-loop : tie.invariant-loop
+abbrev invariant-loop : tie.invariant-loop-k
 invariant-loop out₀ at bytes block k₀ out k = (k ≤ 32) × (length out ≡ length out₀) × (out ≡ over out₀ at (take k (digits_of bytes)))
 
-abbrev decreases-loop : tie.decreases-loop
+abbrev decreases-loop : tie.decreases-loop-k
 decreases-loop out₀ at bytes block k₀ out k = 32 - k
 
-loop-holds : tie.Need-loop-init invariant-loop decreases-loop
+loop-holds : tie.Need-loop-k-init invariant-loop decreases-loop
 loop-holds c = (omega arith, refl, sym (over_none _ _))
 
-loop-again : tie.Need-loop-preserved invariant-loop decreases-loop
+loop-again : tie.Need-loop-k-preserved invariant-loop decreases-loop
 loop-again c =
-    let l = c.before.loop in
-    let at-block-of = c.before.before in
-    let s = at-block-of.before.before.before in
+    let l = c.loop-k in
+    let at-block-of = c.before in
+    let s = at-block-of.before in
     let bytes = s.args.bytes.now in
     let long = length_pairs bytes in (
       omega arith,
       simp length-set l.invariant.1,
-      rw (l.invariant.2, at-block-of.Block-of.ensures)
+      rw (l.invariant.2, at-block-of.block_of-block.ensures)
           (copy_turn s.args.out.now (digits_of bytes) s.args.at l.k (omega (arith, long, s.requires.0, s.requires.1)) (omega (arith, long, s.requires.0))),
     )
 
 returns : tie.Need-returns invariant-loop decreases-loop
 returns c =
-    let l = c.before.loop in
-    let s = c.before.before.before.before.before in
+    let l = c.loop-k in
+    let s = c.before in
     let bytes = s.args.bytes.now in
-    rw (take_all l.k (digits_of bytes) (omega (arith, length_pairs bytes, s.requires.0, c.loop-test.false))) at l.invariant.2
+    rw (take_all l.k (digits_of bytes) (omega (arith, length_pairs bytes, s.requires.0, c.loop-k-test.false))) at l.invariant.2
 
-pub put-block-spec : {M : Type 1} → statement M
-put-block-spec =
+pub put_block_spec : {M : Type 1} → statement M
+put_block_spec =
     tie.close
     (tie.spec
     invariant-loop

@@ -12,37 +12,37 @@ use borrow.Author.Rules.{rules}
 use Rattle.hex_write.proofs.put_few.Statement.{statement}
 use Rattle.hex_write.proofs.put_few.Tie as tie
 
-abbrev invariant-loop : tie.invariant-loop
+abbrev invariant-loop : tie.invariant-loop-k
 invariant-loop table out₀ at bytes k₀ out k =
     (k ≤ length bytes) × (length out ≡ length out₀) × (out ≡ over out₀ at (digits_of (take k bytes)))
 
-abbrev decreases-loop : tie.decreases-loop
+abbrev decreases-loop : tie.decreases-loop-k
 decreases-loop table out₀ at bytes k₀ out k = length bytes - k
 
-loop-holds : tie.Need-loop-init invariant-loop decreases-loop
+loop-holds : tie.Need-loop-k-init invariant-loop decreases-loop
 loop-holds c = (omega arith, refl, sym (over_none _ _))
 
-put-listed-requires : tie.Need-put-listed-requires invariant-loop decreases-loop
+put-listed-requires : tie.Need-put_listed-requires invariant-loop decreases-loop
 put-listed-requires c κs = (search rules, omega arith)
 
-loop-again : tie.Need-loop-preserved invariant-loop decreases-loop
+loop-again : tie.Need-loop-k-preserved invariant-loop decreases-loop
 loop-again c =
-    let s = c.before.before.before.before.before.before.before.before.before in
-    let l = c.before.before.before.before.before.before.loop in (
+    let s = c.before in
+    let l = c.loop-k in (
       omega arith,
-      c.before.before.put-listed.auto.1.0 ∙ l.invariant.1,
-      rw (c.before.before.put-listed.ensures, l.invariant.2)
+      c.put_listed.auto.out ∙ l.invariant.1,
+      rw (c.put_listed.ensures, l.invariant.2)
           (pairs_more s.args.out.now s.args.at s.args.bytes.now l.k s.requires.1 (omega arith)),
     )
 
 returns : tie.Need-returns invariant-loop decreases-loop
 returns c =
-    let l = c.before.loop in
-    let bytes = c.before.before.before.before.args.bytes.now in
-    rw (take_all l.k bytes c.loop-test.false) at l.invariant.2
+    let l = c.loop-k in
+    let bytes = c.args.bytes.now in
+    rw (take_all l.k bytes c.loop-k-test.false) at l.invariant.2
 
-pub put-few-spec : {M : Type 1} → statement M
-put-few-spec =
+pub put_few_spec : {M : Type 1} → statement M
+put_few_spec =
     tie.close
     (tie.spec
     invariant-loop

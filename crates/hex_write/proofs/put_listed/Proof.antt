@@ -13,19 +13,19 @@ use Rattle.hex_write.proofs.put_listed.Statement.{statement}
 use Rattle.hex_write.proofs.put_listed.Tie as tie
 
 -- the byte is one, and its entry is the pair of its digits
-small : (c : tie.After-pair) → c.before.args.byte < 256
+small : (c : tie.After-pair-1) → c.args.byte < 256
 small c = omega arith
 
-entry-is : (c : tie.After-pair) → let b = c.before.args.byte in
-    get_or c.before.args.table.now b 0 ≡ digit (b / 16) + 256 * digit (b % 16)
+entry-is : (c : tie.After-pair-1) → let b = c.args.byte in
+    get_or c.args.table.now b 0 ≡ digit (b / 16) + 256 * digit (b % 16)
 unfolding pair_of
-entry-is c = rw c.before.requires.0 (pair_at c.before.args.byte (small c))
+entry-is c = rw c.requires.0 (pair_at c.args.byte (small c))
 
-cast-out-2 : tie.Need-overflow-cast-out-2
+cast-out-2 : tie.Need-overflow_cast-out-2
 cast-out-2 c = omega (arith, (second_digit _ _ (small c) (entry-is c)).1)
 
-slice-write-out-2 : tie.Need-slice-write-out-2
-slice-write-out-2 c = simp length-set (omega (arith, c.before.requires.1))
+slice-write-out-2 : tie.Need-bounds-out-low
+slice-write-out-2 c = simp length-set (omega (arith, c.requires.1))
 
 returns : tie.Need-returns
 returns c =
@@ -33,8 +33,8 @@ returns c =
     rw (first_digit _ _ (small c) (entry-is c), (second_digit _ _ (small c) (entry-is c)).0)
     (over_two s.args.out.now s.args.at _ _ s.requires.1)
 
-pub put-listed-spec : {M : Type 1} → statement M
-put-listed-spec =
+pub put_listed_spec : {M : Type 1} → statement M
+put_listed_spec =
     tie.close
     (tie.spec
     (λ c. search rules)

@@ -6,17 +6,17 @@ use Rattle.lists.proofs.OverLaws.{over_two}
 use Rattle.hex_write.proofs.put_pair.Statement.{statement}
 use Rattle.hex_write.proofs.put_pair.Tie as tie
 
-slice-write-out-2 : tie.Need-slice-write-out-2
+slice-write-out-2 : tie.Need-bounds-out-low
 slice-write-out-2 c = simp length-set (omega arith)
 
 returns : tie.Need-returns
 returns c =
-    let a = c.before.before.before.args in
-    rw (c.before.digit-for.ensures, c.digit-for2.ensures)
-    (over_two a.out.now a.at _ _ c.before.before.before.requires)
+    let a = c.args in
+    rw (c.digit_for.ensures, c.digit_for-2.ensures)
+    (over_two a.out.now a.at _ _ c.requires)
 
-pub put-pair-spec : {M : Type 1} → statement M
-put-pair-spec =
+pub put_pair_spec : {M : Type 1} → statement M
+put_pair_spec =
     tie.close
     (tie.spec
     (λ c. search rules)

@@ -9,35 +9,35 @@ use Rattle.hex_write.proofs.PutLaws.{sum_more}
 use Rattle.hex_write.proofs.sum_bytes.Statement.{statement}
 use Rattle.hex_write.proofs.sum_bytes.Tie as tie
 
-abbrev invariant-loop : tie.invariant-loop
+abbrev invariant-loop : tie.invariant-loop-k
 invariant-loop bytes s₀ k₀ s k = (k ≤ length bytes) × (s ≤ 255 * k) × (s ≡ sum (take k bytes))
 
-abbrev decreases-loop : tie.decreases-loop
+abbrev decreases-loop : tie.decreases-loop-k
 decreases-loop bytes s₀ k₀ s k = length bytes - k
 
-loop-holds : tie.Need-loop-init invariant-loop decreases-loop
+loop-holds : tie.Need-loop-k-init invariant-loop decreases-loop
 loop-holds c = (omega arith, omega arith, refl)
 
-cast-s : tie.Need-overflow-cast-s invariant-loop decreases-loop
-cast-s c = omega (arith, c.shared-slice-known.given c.before.before.loop.k)
+cast-s : tie.Need-overflow_cast-s invariant-loop decreases-loop
+cast-s c = omega (arith, c.shared_slice_known-1.given c.loop-k.k)
 
-add-s : tie.Need-overflow-add-s invariant-loop decreases-loop
-add-s c = omega (arith, c.shared-slice-known.given c.before.before.loop.k)
+add-s : tie.Need-overflow_add-s invariant-loop decreases-loop
+add-s c = omega (arith, c.shared_slice_known-1.given c.loop-k.k)
 
-loop-again : tie.Need-loop-preserved invariant-loop decreases-loop
+loop-again : tie.Need-loop-k-preserved invariant-loop decreases-loop
 loop-again c =
-    let l = c.before.before.loop in
-    let bytes = c.before.before.before.args.bytes.now in
-    (omega arith, omega (arith, c.shared-slice-known.given l.k), rw l.invariant.2 (sum_more bytes l.k (omega arith)))
+    let l = c.loop-k in
+    let bytes = c.args.bytes.now in
+    (omega arith, omega (arith, c.shared_slice_known-1.given l.k), rw l.invariant.2 (sum_more bytes l.k (omega arith)))
 
 returns : tie.Need-returns invariant-loop decreases-loop
 returns c =
-    let l = c.before.loop in
-    let bytes = c.before.before.args.bytes.now in
-    (rw (take_all l.k bytes c.loop-test.false) at l.invariant.2, omega arith)
+    let l = c.loop-k in
+    let bytes = c.args.bytes.now in
+    (rw (take_all l.k bytes c.loop-k-test.false) at l.invariant.2, omega arith)
 
-pub sum-bytes-spec : {M : Type 1} → statement M
-sum-bytes-spec =
+pub sum_bytes_spec : {M : Type 1} → statement M
+sum_bytes_spec =
     tie.close
     (tie.spec
     invariant-loop

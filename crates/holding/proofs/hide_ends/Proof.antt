@@ -11,17 +11,17 @@ use borrow.Author.Rules.{rules}
 use Rattle.holding.proofs.hide_ends.Statement.{statement}
 use Rattle.holding.proofs.hide_ends.Tie as tie
 
-abbrev invariant-loop : tie.invariant-loop
+abbrev invariant-loop : tie.invariant-loop-i
 invariant-loop chars₀ i₀ chars i = (i ≤ length chars₀) × (length chars ≡ length chars₀) × (chars ≡ renewed chars₀ (map visible chars₀) i)
 
-abbrev decreases-loop : tie.decreases-loop
+abbrev decreases-loop : tie.decreases-loop-i
 decreases-loop chars₀ i₀ chars i = length chars₀ - i
 
-loop-again : tie.Need-loop-preserved invariant-loop decreases-loop
+loop-again : tie.Need-loop-i-preserved invariant-loop decreases-loop
 loop-again c =
     let k = c.before.before.before in
-    let l = k.loop in
-    let cs = k.before.before.args.chars.now in
+    let l = k.loop-i in
+    let cs = k.args.chars.now in
     let h : l.i < length cs = omega arith in
     let old = ap (λ (xs : List ℕ). get_or xs l.i 0) l.invariant.2 ∙ still_old cs (map visible cs) l.i (length-map cs visible) h in
     let new = c.seen.ensures ∙ ap visible old ∙ shown_at cs l.i h in
@@ -29,12 +29,12 @@ loop-again c =
 
 returns : tie.Need-returns invariant-loop decreases-loop
 returns c =
-    let l = c.before.loop in
-    let cs = c.before.before.before.args.chars.now in
+    let l = c.loop-i in
+    let cs = c.args.chars.now in
     renew_end cs (map visible cs) l.chars l.i (length-map cs visible) (omega arith) l.invariant.2
 
-pub hide-ends-spec : {M : Type 1} → statement M
-hide-ends-spec =
+pub hide_ends_spec : {M : Type 1} → statement M
+hide_ends_spec =
     tie.close
     (tie.spec
     invariant-loop

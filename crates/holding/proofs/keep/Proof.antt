@@ -12,17 +12,17 @@ use Rattle.holding.proofs.keep.Statement.{statement}
 use Rattle.holding.proofs.keep.Tie as tie
 
 -- no more than 515 characters are held
-within : (c : tie.After-hold) → take (min c.hold.result 515) c.hold.new.0 ≡ take c.hold.result c.hold.new.0
+within : (c : tie.After-hold-held) → take (min c.hold-held.result 515) c.hold-held.new.line ≡ take c.hold-held.result c.hold-held.new.line
 within c =
-    let e : min c.hold.result 515 ≡ c.hold.result = omega (arith, c.hold.ensures.1) in
-    ap (λ (n : ℕ). take n c.hold.new.0) e
+    let e : min c.hold-held.result 515 ≡ c.hold-held.result = omega (arith, c.hold-held.ensures.1) in
+    ap (λ (n : ℕ). take n c.hold-held.new.line) e
 
 returns : tie.Need-returns
 returns c =
     let h = c.before.before in
     let s = h.before.before.before.before in
     let a = s.args in
-    let shown = ap (λ (cs : List ℕ). map visible cs) (within h ∙ h.hold.ensures.0)
+    let shown = ap (λ (cs : List ℕ). map visible cs) (within h ∙ h.hold-held.ensures.0)
     ∙ shown_more (take (min a.session.held 515) a.session.line) a.chars.now s.requires.1 in (
       refl,
       ap (λ (cs : List ℕ). record {

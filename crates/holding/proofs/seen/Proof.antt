@@ -4,11 +4,11 @@ use borrow.Author.Rules.{rules}
 use Rattle.holding.proofs.seen.Statement.{statement}
 use Rattle.holding.proofs.seen.Tie as tie
 
-returns : tie.Need-returns
-returns c = rw (sym c.before.is-gap.ensures ∙ c.if1.true)
+returns : tie.Need-returns-then-is_gap
+returns c = rw (sym c.is_gap.ensures ∙ c.if-is_gap.true)
 
-returns-2 : tie.Need-returns-2
-returns-2 c = rw (sym c.before.is-gap.ensures ∙ c.if1.false)
+returns-2 : tie.Need-returns-else-is_gap
+returns-2 c = rw (sym c.is_gap.ensures ∙ c.if-is_gap.false)
 
-pub seen-spec : {M : Type 1} → statement M
-seen-spec = tie.close (tie.spec (λ c κs. search rules) returns returns-2)
+pub seen_spec : {M : Type 1} → statement M
+seen_spec = tie.close (tie.spec (λ c κs. search rules) returns returns-2)

@@ -12,17 +12,17 @@ use borrow.Author.Rules.{rules}
 use Rattle.layers.proofs.join.Statement.{statement}
 use Rattle.layers.proofs.join.Tie as tie
 
-abbrev invariant-loop : tie.invariant-loop
+abbrev invariant-loop : tie.invariant-loop-i
 invariant-loop marks₀ others i₀ marks i =
     (i ≤ length marks₀) × (length marks ≡ length marks₀) × (marks ≡ renewed marks₀ (joined marks₀ others) i)
 
-abbrev decreases-loop : tie.decreases-loop
+abbrev decreases-loop : tie.decreases-loop-i
 decreases-loop marks₀ others i₀ marks i = length marks₀ - i
 
-loop-again : tie.Need-loop-preserved invariant-loop decreases-loop
+loop-again : tie.Need-loop-i-preserved invariant-loop decreases-loop
 loop-again c =
     let k = c.before.before.before in
-    let l = k.loop in
+    let l = k.loop-i in
     let s = k.before in
     let marks = s.args.marks.now in
     let others = s.args.others.now in
@@ -35,13 +35,13 @@ loop-again c =
 
 returns : tie.Need-returns invariant-loop decreases-loop
 returns c =
-    let l = c.before.loop in
+    let l = c.loop-i in
     let s = c.before.before in
     renew_end s.args.marks.now (joined s.args.marks.now s.args.others.now) l.marks l.i
     (joined_length s.args.marks.now s.args.others.now s.requires) (omega arith) l.invariant.2
 
-pub join-spec : {M : Type 1} → statement M
-join-spec =
+pub join_spec : {M : Type 1} → statement M
+join_spec =
     tie.close
     (tie.spec
     invariant-loop

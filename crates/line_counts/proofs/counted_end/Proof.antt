@@ -10,32 +10,32 @@ use Rattle.line_counts.proofs.counted_end.Statement.{statement}
 use Rattle.line_counts.proofs.counted_end.Tie as tie
 
 -- the call, where the size is known
-abbrev call : tie.After-size-at → tie.Start
+abbrev call : tie.After-size_at-size → tie.Start
 call c = c.before.before.before
 
-returns : tie.Need-returns
-returns c = let a = c.before.before.args in (omega arith, omega arith, end_stops (format_of a.format).gap a.text.now)
+returns : tie.Need-returns-then-end-from-lt4
+returns c = let a = c.args in (omega arith, omega arith, end_stops (format_of a.format).gap a.text.now)
 
-returns-2 : tie.Need-returns-2
+returns-2 : tie.Need-returns-then-end-from
 returns-2 c = let a = (call c.before).args in (omega arith, omega arith, end_stops (format_of a.format).gap a.text.now)
 
-returns-3 : tie.Need-returns-3
+returns-3 : tie.Need-returns-then-not-is_gap
 returns-3 c =
     let a = (call c.before.before.before.before).args in
     (omega arith, omega arith, end_stops (format_of a.format).gap a.text.now)
 
-returns-4 : tie.Need-returns-4
+returns-4 : tie.Need-returns
 returns-4 c =
     let at_size = c.before.before.before.before in
     let a = (call at_size).args in (
       omega arith,
       omega arith,
-      gap_stops (format_of a.format).gap a.text.now (a.from + at_size.size-at.result) (omega arith)
-          (sym c.before.is-gap.ensures ∙ not-false _ c.if3.false),
+      gap_stops (format_of a.format).gap a.text.now (a.from + at_size.size_at-size.result) (omega arith)
+          (sym c.is_gap.ensures ∙ c.if-not-is_gap.false),
     )
 
-pub counted-end-spec : {M : Type 1} → statement M
-counted-end-spec =
+pub counted_end_spec : {M : Type 1} → statement M
+counted_end_spec =
     tie.close
     (tie.spec
     (λ c. search rules)

@@ -8,22 +8,22 @@ use borrow.Author.Rules.{rules}
 use Rattle.line_counts.proofs.size_at.Statement.{statement}
 use Rattle.line_counts.proofs.size_at.Tie as tie
 
-returns : tie.Need-returns
+returns : tie.Need-returns-in-Records
 returns c =
     let at_told = c.before.before.before in
-    let a = at_told.before.before.before.args in
-    size_chosen a.format Records at_told.enum_told.given.1 (drop a.from a.text.now) _
+    let a = at_told.args in
+    size_chosen a.format Records at_told.in-Records.is (drop a.from a.text.now) _
     (ap (λ (n : ℕ). 4 + 2 * n) c.byte_of.ensures ∙ size_records a.text.now a.from)
 
-returns-2 : tie.Need-returns-2
+returns-2 : tie.Need-returns-in-Tape
 returns-2 c =
     let at_told = c.before.before.before in
-    let a = at_told.before.before.before.args in
-    size_chosen a.format _ at_told.enum-told2.given.1 (drop a.from a.text.now) _
-    (ap (λ (n : ℕ). 11 + 2 * n) c.byte-of2.ensures ∙ size_tape at_told.enum-told2.given.0.0 a.text.now a.from)
+    let a = at_told.args in
+    size_chosen a.format _ at_told.in-Tape.is (drop a.from a.text.now) _
+    (ap (λ (n : ℕ). 11 + 2 * n) c.byte_of-in-Tape.ensures ∙ size_tape at_told.in-Tape.field-0 a.text.now a.from)
 
-pub size-at-spec : {M : Type 1} → statement M
-size-at-spec =
+pub size_at_spec : {M : Type 1} → statement M
+size_at_spec =
     tie.close
     (tie.spec
     (λ c. search rules)

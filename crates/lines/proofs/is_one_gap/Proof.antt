@@ -7,14 +7,14 @@ use borrow.Author.Rules.{rules}
 use Rattle.lines.proofs.is_one_gap.Statement.{statement}
 use Rattle.lines.proofs.is_one_gap.Tie as tie
 
-returns-3 : tie.Need-returns-3
+returns-3 : tie.Need-returns
 returns-3 c e =
     let past = c.before in
-    let t = past.before.before.before.args.text.now in
-    (omega (arith, past.before.before.if1.false), past.if2.false, ltb-true 19 (get_or t 1 0) e)
+    let t = past.args.text.now in
+    (omega (arith, past.if-text-lt2.false), past.if-text-ne10.false, ltb-true 19 (get_or t 1 0) e)
 
-pub is-one-gap-spec : {M : Type 1} → statement M
-is-one-gap-spec =
+pub is_one_gap_spec : {M : Type 1} → statement M
+is_one_gap_spec =
     tie.close
     (tie.spec
     (λ c e. no_says e)

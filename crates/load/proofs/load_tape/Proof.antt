@@ -7,8 +7,8 @@ use Rattle.load.proofs.load_tape.Tie as tie
 returns : tie.Need-returns
 returns c =
     let at_load = c.before.before.before.before in
-    let a = at_load.before.before.before.before.before.before.args in
-    in_bytes a.base a.memory.now a.marks.now _ _ _ _ at_load.load-as.ensures
+    let a = at_load.args in
+    in_bytes a.base a.memory.now a.marks.now _ _ _ _ at_load.load_as.ensures
 
-pub load-tape-spec : {M : Type 1} → statement M
-load-tape-spec = tie.close (tie.spec (λ c κs. search rules) (λ c. search rules) (λ c. search rules) returns)
+pub load_tape_spec : {M : Type 1} → statement M
+load_tape_spec = tie.close (tie.spec (λ c κs. search rules) (λ c. search rules) (λ c. search rules) returns)

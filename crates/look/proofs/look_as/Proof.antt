@@ -11,21 +11,21 @@ use borrow.Author.Rules.{rules}
 use Rattle.look.proofs.look_as.Statement.{statement}
 use Rattle.look.proofs.look_as.Tie as tie
 
-part-at-requires : tie.Need-part-at-requires
+part-at-requires : tie.Need-part_at-requires
 part-at-requires c κs n =
-    let a = c.before.before.before.before.before.args in
-    let B : Window = window_of a.base a.base-memory.now a.base-marks.now in
-    let P : Window = window_of a.base a.patch-memory.now a.patch-marks.now in
-    let w = c.look-source-as.result in
-    let ok = not_refused a.form B P a.address w n c.look-source-as.ensures in
+    let a = c.args in
+    let B : Window = window_of a.base a.base_memory.now a.base_marks.now in
+    let P : Window = window_of a.base a.patch_memory.now a.patch_marks.now in
+    let w = c.look_source_as-source.result in
+    let ok = not_refused a.form B P a.address w n c.look_source_as-source.ensures in
     let l = look_fit_in a.form B P ok in
     let h = inside (plain a.form B) (plain a.form P) a.address w n
-    (sym (plain_source a.form B P a.address ok) ∙ sym c.look-source-as.ensures) in
+    (sym (plain_source a.form B P a.address ok) ∙ sym c.look_source_as-source.ensures) in
     (l.base, l.patch, l.both, h.low, h.high)
 
 returns : tie.Need-returns
 unfolding look_part_in look_place_in
-returns c = rw (← c.before.look-source-as.ensures) c.part_at.ensures
+returns c = rw (← c.look_source_as-source.ensures) c.part_at.ensures
 
-pub look-as-spec : {M : Type 1} → statement M
-look-as-spec = tie.close (tie.spec (λ c κs. search rules) part-at-requires returns)
+pub look_as_spec : {M : Type 1} → statement M
+look_as_spec = tie.close (tie.spec (λ c κs. search rules) part-at-requires returns)

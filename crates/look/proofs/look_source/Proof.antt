@@ -7,8 +7,8 @@ use Rattle.look.proofs.look_source.Tie as tie
 
 returns : tie.Need-returns
 returns c =
-    let a = c.before.before.before.before.before.args in
-    c.look-source-as.ensures ∙ source_bytes a.base a.base-memory.now a.base-marks.now a.patch-memory.now a.patch-marks.now a.address
+    let a = c.args in
+    c.look_source_as.ensures ∙ source_bytes a.base a.base_memory.now a.base_marks.now a.patch_memory.now a.patch_marks.now a.address
 
-pub look-source-spec : {M : Type 1} → statement M
-look-source-spec = tie.close (tie.spec (λ c κs. search rules) returns)
+pub look_source_spec : {M : Type 1} → statement M
+look_source_spec = tie.close (tie.spec (λ c κs. search rules) returns)

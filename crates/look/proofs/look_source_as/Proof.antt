@@ -12,7 +12,7 @@ use Rattle.look.proofs.look_source_as.Statement.{statement}
 use Rattle.look.proofs.look_source_as.Tie as tie
 
 -- the windows of a call
-module _ (c : tie.After-first-row) where
+module _ (c : tie.After-first_row-refusal) where
   abbrev start : tie.Start
   start = c.before.before.before.before.before
 
@@ -20,33 +20,33 @@ module _ (c : tie.After-first-row) where
   form = start.args.form
 
   abbrev base : Window
-  base = window_of start.args.base start.args.base-memory.now start.args.base-marks.now
+  base = window_of start.args.base start.args.base_memory.now start.args.base_marks.now
 
   abbrev patch : Window
-  patch = window_of start.args.base start.args.patch-memory.now start.args.patch-marks.now
+  patch = window_of start.args.base start.args.patch_memory.now start.args.patch_marks.now
 
 -- no row applies
-fit : (c : tie.Else1) → let j = c.before.before in passes (look_refusal_in (form j) (base j) (patch j)) ≡ true
+fit : (c : tie.Else-refusal-ne0) → let j = c.before.before in passes (look_refusal_in (form j) (base j) (patch j)) ≡ true
 fit c =
     let j = c.before.before in
-    passed (form j) (base j) (patch j) j.first-row.result j.first-row.ensures c.if1.false
+    passed (form j) (base j) (patch j) j.first_row-refusal.result j.first_row-refusal.ensures c.if-refusal-ne0.false
 
-returns : tie.Need-returns
+returns : tie.Need-returns-then-refusal-ne0
 returns c =
     let j = c.before.before in
-    is_refused (form j) (base j) (patch j) j.first-row.result j.first-row.ensures c.if1.true (start j).args.address
+    is_refused (form j) (base j) (patch j) j.first_row-refusal.result j.first_row-refusal.ensures c.if-refusal-ne0.true (start j).args.address
 
-source-at-requires : tie.Need-source-at-requires
+source-at-requires : tie.Need-source_at-requires
 source-at-requires c κs =
     let j = c.before.before in
     let s = look_fit_in (form j) (base j) (patch j) (fit c) in
     (s.base, s.patch, s.both)
 
-returns-2 : tie.Need-returns-2
+returns-2 : tie.Need-returns
 returns-2 c =
     let e = c.before in
     let j = e.before.before in
-    c.source-at.ensures ∙ is_source (form j) (base j) (patch j) (fit e) (start j).args.address
+    c.source_at.ensures ∙ is_source (form j) (base j) (patch j) (fit e) (start j).args.address
 
-pub look-source-as-spec : {M : Type 1} → statement M
-look-source-as-spec = tie.close (tie.spec (λ c κs. search rules) returns source-at-requires returns-2)
+pub look_source_as_spec : {M : Type 1} → statement M
+look_source_as_spec = tie.close (tie.spec (λ c κs. search rules) returns source-at-requires returns-2)

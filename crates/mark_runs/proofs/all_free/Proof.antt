@@ -11,22 +11,22 @@ use borrow.Author.Tests.{not-true, not-false}
 use Rattle.mark_runs.proofs.all_free.Statement.{statement}
 use Rattle.mark_runs.proofs.all_free.Tie as tie
 
-returns-3 : tie.Need-returns-3
+returns-3 : tie.Need-returns-then-not-is_free
 returns-3 c =
     let seen = c.before in
-    sym (first_taken 16 seen.before.before.before.before.before.args.part.now (sym seen.is-free3.ensures ∙ not-true _ c.if3.true))
+    sym (first_taken 16 seen.args.part.now (sym seen.is_free-2.ensures ∙ c.if-not-is_free.true))
 
-returns-4 : tie.Need-returns-4
+returns-4 : tie.Need-returns
 returns-4 c =
-    let past = c.before.before in
+    let past = c.before in
     let seen = past.before in
-    let ms = seen.before.before.before.before.before.args.part.now in
+    let ms = seen.args.part.now in
     let last : ℕ = length ms - 16 in
-    c.is-free4.ensures ∙ ap is_free (rest last ms)
-    ∙ free_from last 16 ms (omega arith) (sym seen.is-free3.ensures ∙ not-false _ past.if3.false)
+    c.is_free-3.ensures ∙ ap is_free (rest last ms)
+    ∙ free_from last 16 ms (omega arith) (sym seen.is_free-2.ensures ∙ past.if-not-is_free.false)
 
-pub all-free-spec : {M : Type 1} → statement M
-all-free-spec =
+pub all_free_spec : {M : Type 1} → statement M
+all_free_spec =
     tie.close
     (tie.spec
     (λ c κs. search rules)

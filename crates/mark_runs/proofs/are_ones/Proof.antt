@@ -9,13 +9,13 @@ use Rattle.mark_runs.proofs.are_ones.Tie as tie
 
 returns : tie.Need-returns
 returns c e =
-    let first = c.before.before.before.before.before in
-    let s = c.before.before.before.before.before.before.before.before.before.before.before in
-    ones_run s.args.part.now s.requires (λ i. omega (arith, c.before.shared-slice-known9.given i)) _ _ first.four.ensures.0 c.four2.ensures.0 first.four.ensures.1
+    let first = c.before in
+    let s = c.before in
+    ones_run s.args.part.now s.requires (λ i. omega (arith, c.shared_slice_known-9-1.given i)) _ _ first.four-low.ensures.0 c.four-high.ensures.0 first.four-low.ensures.1
     (eqb→eq _ _ (true_T e))
 
-pub are-ones-spec : {M : Type 1} → statement M
-are-ones-spec =
+pub are_ones_spec : {M : Type 1} → statement M
+are_ones_spec =
     tie.close
     (tie.spec
     (λ c. search rules)

@@ -10,38 +10,38 @@ use borrow.Author.Rules.{rules}
 use Rattle.marks.proofs.first_bad.Statement.{statement}
 use Rattle.marks.proofs.first_bad.Tie as tie
 
-returns : tie.Need-returns
-returns c = let m = c.before in rw (m.before.enum_told.given.1, sym m.has-bad.ensures ∙ not-true _ c.if1.true)
+returns : tie.Need-returns-then-not-has_bad
+returns c = let m = c.before in rw (m.in-Bytes.is, sym m.has_bad.ensures ∙ c.if-not-has_bad.true)
 
-returns-2 : tie.Need-returns-2
+returns-2 : tie.Need-returns-in-Bytes
 returns-2 c =
     let e = c.before in
-    rw (e.before.before.enum_told.given.1, sym e.before.has-bad.ensures ∙ not-false _ e.if1.false, c.bad-byte.ensures)
+    rw (e.in-Bytes.is, sym e.has_bad.ensures ∙ e.if-not-has_bad.false, c.bad_byte-place.ensures)
 
 -- how many mark bytes there are, where they are packed
-long : (c : tie.After-enum-told2) → length c.before.before.before.args.marks.now ≡ byte_count c.before.before.before.args.cells
-long c = let s = c.before.before.before in packed_long s.args.form s.args.cells s.args.marks.now s.requires.1 c.enum-told2.given.1
+long : (c : tie.In-Packed) → length c.args.marks.now ≡ byte_count c.args.cells
+long c = let s = c.before in packed_long s.args.form s.args.cells s.args.marks.now s.requires.1 c.in-Packed.is
 
-returns-3 : tie.Need-returns-3
+returns-3 : tie.Need-returns-then-next_set-end
 returns-3 c =
     let m = c.before in
-    let a = m.before.before.before.before.args in
+    let a = m.args in
     rw (
-      m.before.enum-told2.given.1,
-      spare_clear a.cells a.marks.now m.next-set.result (long m.before) m.next-set.ensures c.if2.true,
+      m.in-Packed.is,
+      spare_clear a.cells a.marks.now m.next_set.result (long m.before) m.next_set.ensures c.if-next_set-end.true,
     )
 
-returns-4 : tie.Need-returns-4
+returns-4 : tie.Need-returns-in-Packed
 returns-4 c =
     let m = c.before in
-    let a = m.before.before.before.before.args in
+    let a = m.args in
     rw (
-      m.before.enum-told2.given.1,
-      spare_set a.cells a.marks.now m.next-set.result (long m.before) m.next-set.ensures c.if2.false,
+      m.in-Packed.is,
+      spare_set a.cells a.marks.now m.next_set.result (long m.before) m.next_set.ensures c.if-next_set-end.false,
     )
 
-pub first-bad-spec : {M : Type 1} → statement M
-first-bad-spec =
+pub first_bad_spec : {M : Type 1} → statement M
+first_bad_spec =
     tie.close
     (tie.spec
     (λ c. search rules)

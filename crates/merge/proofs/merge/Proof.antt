@@ -8,20 +8,20 @@ use Rattle.merge.proofs.merge.Tie as tie
 returns : tie.Need-returns
 returns c =
     let at-merge = c.before.before.before.before in
-    let a = at-merge.before.before.before.before.before.before.before.before.before.args in
-    let m = a.base-memory.now in
-    let k = a.base-marks.now in
-    let h = a.base-header.now in
-    let n = a.patch-memory.now in
-    let j = a.patch-marks.now in
-    let g = a.patch-header.now in
-    let e = at-merge.merge-as.ensures in (
-      e.0 ∙ answer_bytes a.base m k h n j g a.base-entry a.patch-entry,
+    let a = at-merge.args in
+    let m = a.base_memory.now in
+    let k = a.base_marks.now in
+    let h = a.base_header.now in
+    let n = a.patch_memory.now in
+    let j = a.patch_marks.now in
+    let g = a.patch_header.now in
+    let e = at-merge.merge_as.ensures in (
+      e.0 ∙ answer_bytes a.base m k h n j g a.base_entry a.patch_entry,
       (
-        e.1.0 ∙ memory_bytes a.base m k h n j g a.base-entry a.patch-entry,
-        e.1.1 ∙ marks_bytes a.base m k h n j g a.base-entry a.patch-entry,
+        e.1.0 ∙ memory_bytes a.base m k h n j g a.base_entry a.patch_entry,
+        e.1.1 ∙ marks_bytes a.base m k h n j g a.base_entry a.patch_entry,
       ),
     )
 
-pub merge-spec : {M : Type 1} → statement M
-merge-spec = tie.close (tie.spec (λ c κs. search rules) (λ c. search rules) (λ c. search rules) returns)
+pub merge_spec : {M : Type 1} → statement M
+merge_spec = tie.close (tie.spec (λ c κs. search rules) (λ c. search rules) (λ c. search rules) returns)

@@ -16,7 +16,7 @@ use Rattle.merge.proofs.merge_as.Statement.{statement}
 use Rattle.merge.proofs.merge_as.Tie as tie
 
 -- the two images of a call
-module _ (c : tie.After-is-long) where
+module _ (c : tie.After-is_long-long) where
   abbrev start : tie.Start
   start = c.before.before.before.before.before.before.before
 
@@ -24,44 +24,44 @@ module _ (c : tie.After-is-long) where
   form = start.args.form
 
   abbrev base : Lent
-  base = lent start.args.base-memory.now start.args.base-marks.now start.args.base-header.now start.args.base-entry
+  base = lent start.args.base_memory.now start.args.base_marks.now start.args.base_header.now start.args.base_entry
 
   abbrev patch : Lent
-  patch = lent start.args.patch-memory.now start.args.patch-marks.now start.args.patch-header.now start.args.patch-entry
+  patch = lent start.args.patch_memory.now start.args.patch_marks.now start.args.patch_header.now start.args.patch_entry
 
   -- the marks are bytes
   base_bytes : (k : ℕ) → get_or base.marks k 0 < 256
-  base_bytes k = omega (arith, c.before.before.before.before.before.slice-known2.given k)
+  base_bytes k = omega (arith, c.slice_known-2-1.given k)
 
   patch_bytes : (k : ℕ) → get_or patch.marks k 0 < 256
-  patch_bytes k = omega (arith, c.before.before.shared-slice-known3.given k)
+  patch_bytes k = omega (arith, c.shared_slice_known-3-1.given k)
 
 -- where the rows were tried
-abbrev asked : tie.After-first-row → tie.After-is-long
-asked c = c.before.before.before
+abbrev asked : tie.After-first_row-refusal → tie.After-is_long-long
+asked c = c.before
 
 -- the refusal by the rows
-tried : (c : tie.After-first-row) → let j = asked c in let B = window_at (start j).args.base (base j) in let P = window_at (start j).args.base (patch j) in
-    c.first-row.result ≡ first_row (row1_both_in (form j) B P) (row15 (base j).header || row15 (patch j).header) (bad_of (form j) B) (bad_of (form j) P)
+tried : (c : tie.After-first_row-refusal) → let j = asked c in let B = window_at (start j).args.base (base j) in let P = window_at (start j).args.base (patch j) in
+    c.first_row-refusal.result ≡ first_row (row1_both_in (form j) B P) (row15 (base j).header || row15 (patch j).header) (bad_of (form j) B) (bad_of (form j) P)
 tried c =
     let j = asked c in
     let B = window_at (start j).args.base (base j) in
     let P = window_at (start j).args.base (patch j) in
-    c.first-row.ensures ∙ ap (λ (long : Bool). first_row (row1_both_in (form j) B P) long (bad_of (form j) B) (bad_of (form j) P)) j.is-long.ensures
+    c.first_row-refusal.ensures ∙ ap (λ (long : Bool). first_row (row1_both_in (form j) B P) long (bad_of (form j) B) (bad_of (form j) P)) j.is_long-long.ensures
 
 -- what is known once none applies
-fit : (c : tie.Else1) → let j = asked c.before.before in
+fit : (c : tie.Else-refusal-ne0) → let j = asked c.before.before in
     FitIn (form j) (window_at (start j).args.base (base j)) (base j).header (window_at (start j).args.base (patch j)) (patch j).header
 fit c =
     let m = c.before.before in
     let j = asked m in
-    accepted (form j) (start j).args.base (base j) (patch j) m.first-row.result (tried m) c.if1.false
+    accepted (form j) (start j).args.base (base j) (patch j) m.first_row-refusal.result (tried m) c.if-refusal-ne0.false
 
-returns : tie.Need-returns
+returns : tie.Need-returns-then-refusal-ne0
 returns c =
     let m = c.before.before.before in
     let j = asked m in
-    merge_refused (form j) (start j).args.base (base j) (patch j) m.first-row.result (tried m) c.refused.result c.before.if1.true c.refused.ensures
+    merge_refused (form j) (start j).args.base (base j) (patch j) m.first_row-refusal.result (tried m) c.refused.result c.if-refusal-ne0.true c.refused.ensures
 
 lay-requires : tie.Need-lay-requires
 lay-requires c κs =
@@ -69,13 +69,13 @@ lay-requires c κs =
     (omega (arith, l.both), l.patch ∙ ap (mark_bytes (form (asked c.before.before.before))) l.both)
 
 -- the cells were laid, and the marks joined
-abbrev laid_at : tie.After-slice-known3 → tie.After-lay
+abbrev laid_at : tie.After-slice_known-3-1 → tie.After-lay
 laid_at c = c.before.before
 
-abbrev passed : tie.After-lay → tie.Else1
+abbrev passed : tie.After-lay → tie.Else-refusal-ne0
 passed c = c.before.before
 
-abbrev joined_at : tie.After-slice-known4 → tie.After-join
+abbrev joined_at : tie.After-slice_known-4-1 → tie.After-join
 joined_at c = c.before.before
 
 abbrev behind-lay : tie.After-join → tie.After-lay
@@ -87,10 +87,10 @@ join-requires c κs =
     let l = (fit e).like in
     l.patch ∙ ap (mark_bytes (form (asked e.before.before))) l.both ∙ sym l.base
 
-merged-header-requires : tie.Need-merged-header-requires
+merged-header-requires : tie.Need-merged_header-header-requires
 merged-header-requires c κs = (fit (passed (behind-lay (joined_at c)))).short
 
-returns-2 : tie.Need-returns-2
+returns-2 : tie.Need-returns
 returns-2 c =
     let at-header = c.before in
     let at_join = joined_at at-header.before in
@@ -98,13 +98,13 @@ returns-2 c =
     let e = passed at-lay in
     let m = e.before.before in
     let j = asked m in
-    merge_accepted (form j) (start j).args.base (base j) (patch j) m.first-row.result (tried m) e.if1.left
-    at-header.merged-header.result c.merged-entry.result at-lay.lay.last.0 at_join.join.last.0
-    at-header.merged-header.ensures c.merged-entry.ensures at-lay.lay.ensures
+    merge_accepted (form j) (start j).args.base (base j) (patch j) m.first_row-refusal.result (tried m) e.if-refusal-ne0.false
+    at-header.merged_header-header.result c.merged_entry-entry.result at-lay.lay.new.memory at_join.join.new.marks
+    at-header.merged_header-header.ensures c.merged_entry-entry.ensures at-lay.lay.ensures
     (at_join.join.ensures ∙ joined_marks (form j) (start j).args.base (base j) (patch j) (fit e) (base_bytes j) (patch_bytes j))
 
-pub merge-as-spec : {M : Type 1} → statement M
-merge-as-spec =
+pub merge_as_spec : {M : Type 1} → statement M
+merge_as_spec =
     tie.close
     (tie.spec
     (λ c κs. search rules)

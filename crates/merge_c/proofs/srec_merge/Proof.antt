@@ -9,11 +9,11 @@ returns : tie.Need-returns
 returns c =
     let at-merge = c.before.before.before.before.before.before.before in
     let at-patch = at-merge.before.before.before in
-    let m = at-merge.merge.ensures in
-    rw (← at-patch.before.entry-for.ensures, ← at-patch.entry-for2.ensures) (c.bare-answer.ensures ∙ ap merged_of m.0, m.1)
+    let m = at-merge.merge-merged.ensures in
+    rw (← at-patch.entry_for-start.ensures, ← at-patch.entry_for-patch_start.ensures) (c.bare_answer.ensures ∙ ap merged_of m.0, m.1)
 
-pub srec-merge-spec : {M : Type 1} → statement M
-srec-merge-spec =
+pub srec_merge_spec : {M : Type 1} → statement M
+srec_merge_spec =
     tie.close
     (tie.spec
     (λ c κs. search rules)

@@ -4,13 +4,13 @@ use Rattle.operands.specs.Reading.{is_sign}
 use Rattle.operands.proofs.is_sign.Statement.{statement}
 use Rattle.operands.proofs.is_sign.Tie as tie
 
-returns : tie.Need-returns
+returns : tie.Need-returns-then-c-eq43
 unfolding is_sign
-returns c = simp (eq-eqb _ _ c.if1.true)
+returns c = simp (eq-eqb _ _ c.if-c-eq43.true)
 
-returns-2 : tie.Need-returns-2
+returns-2 : tie.Need-returns-else-c-eq43
 unfolding is_sign
-returns-2 c = simp (ne_eqb _ _ c.if1.false)
+returns-2 c = simp (ne_eqb _ _ c.if-c-eq43.false)
 
-pub is-sign-spec : {M : Type 1} → statement M
-is-sign-spec = tie.close (tie.spec returns returns-2)
+pub is_sign_spec : {M : Type 1} → statement M
+is_sign_spec = tie.close (tie.spec returns returns-2)

@@ -5,25 +5,25 @@ use borrow.Author.Rules.{rules}
 use Rattle.operands.proofs.name.Statement.{statement}
 use Rattle.operands.proofs.name.Tie as tie
 
-returns : tie.Need-returns
+returns : tie.Need-returns-then-n-gt-NAME
 returns c =
-    let a = c.before.before.before.before.before.args in
-    name_long (symbols_in a.table.now) a.text.now a.at c.before.count.result c.before.count.ensures.0 c.if1.true
+    let a = c.args in
+    name_long (symbols_in a.table.now) a.text.now a.at c.count-n.result c.count-n.ensures.0 c.if-n-gt-NAME.true
 
-returns-2 : tie.Need-returns-2
+returns-2 : tie.Need-returns-then-found
 returns-2 c =
     let d = c.before.before.before.before in
-    let a = d.before.before.before.before.args in
-    name_known (symbols_in a.table.now) a.text.now a.at d.count.result d.count.ensures.0 c.before.before.before.if1.false c.before.find.result c.before.find.ensures c.if2.true
+    let a = d.args in
+    name_known (symbols_in a.table.now) a.text.now a.at d.count-n.result d.count-n.ensures.0 c.if-n-gt-NAME.false c.find-found.result c.find-found.ensures c.if-found.true
 
-returns-3 : tie.Need-returns-3
+returns-3 : tie.Need-returns
 returns-3 c =
     let d = c.before.before.before.before in
-    let a = d.before.before.before.before.args in
-    name_unknown (symbols_in a.table.now) a.text.now a.at d.count.result d.count.ensures.0 c.before.before.before.if1.false c.before.find.result c.before.find.ensures c.if2.false
+    let a = d.args in
+    name_unknown (symbols_in a.table.now) a.text.now a.at d.count-n.result d.count-n.ensures.0 c.if-n-gt-NAME.false c.find-found.result c.find-found.ensures c.if-found.false
 
-pub name-spec : {M : Type 1} → statement M
-name-spec =
+pub name_spec : {M : Type 1} → statement M
+name_spec =
     tie.close
     (tie.spec
     (λ c. search rules)

@@ -4,24 +4,24 @@ use borrow.Author.Rules.{rules}
 use Rattle.operands.proofs.number.Statement.{statement}
 use Rattle.operands.proofs.number.Tie as tie
 
-returns : tie.Need-returns
+returns : tie.Need-returns-then-n-eq0
 returns c =
-    let a = c.before.before.before.before.args in
-    number_none a.text.now a.at c.before.count.result c.before.count.ensures.0 c.if1.true
+    let a = c.args in
+    number_none a.text.now a.at c.count-n.result c.count-n.ensures.0 c.if-n-eq0.true
 
-returns-2 : tie.Need-returns-2
+returns-2 : tie.Need-returns-then-n-gt-DIGITS
 returns-2 c =
-    let a = c.before.before.before.before.before.args in
-    number_long a.text.now a.at c.before.before.count.result c.before.before.count.ensures.0 c.if2.true
+    let a = c.args in
+    number_long a.text.now a.at c.count-n.result c.count-n.ensures.0 c.if-n-gt-DIGITS.true
 
-returns-3 : tie.Need-returns-3
+returns-3 : tie.Need-returns
 returns-3 c =
     let d = c.before.before.before.before in
-    let a = d.before.before.before.args in
-    number_good a.text.now a.at d.count.result d.count.ensures.0 c.before.before.before.if1.false c.before.before.if2.false c.number.result c.number.ensures
+    let a = d.args in
+    number_good a.text.now a.at d.count-n.result d.count-n.ensures.0 c.if-n-eq0.false c.if-n-gt-DIGITS.false c.number.result c.number.ensures
 
-pub number-spec : {M : Type 1} → statement M
-number-spec =
+pub number_spec : {M : Type 1} → statement M
+number_spec =
     tie.close
     (tie.spec
     (λ c. search rules)

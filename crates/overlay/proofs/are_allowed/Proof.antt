@@ -11,7 +11,7 @@ use Rattle.overlay.proofs.are_allowed.Statement.{statement}
 use Rattle.overlay.proofs.are_allowed.Tie as tie
 
 -- the two windows
-module _ (c : tie.After-is-allowed) where
+module _ (c : tie.After-is_allowed) where
   abbrev start : tie.Start
   start = c.before.before.before.before.before
 
@@ -19,31 +19,31 @@ module _ (c : tie.After-is-allowed) where
   form = start.args.form
 
   abbrev base : Window
-  base = window_of start.args.base start.args.base-memory.now start.args.base-marks.now
+  base = window_of start.args.base start.args.base_memory.now start.args.base_marks.now
 
   abbrev patch : Window
-  patch = window_of start.args.base start.args.patch-memory.now start.args.patch-marks.now
+  patch = window_of start.args.base start.args.patch_memory.now start.args.patch_marks.now
 
 -- row 1 of the base's does not apply
-good : (c : tie.Else1) → row1_in (form c.before) (base c.before) ≡ false
-good c = not-true _ (sym c.before.is-allowed.ensures ∙ not-false _ c.if1.false)
+good : (c : tie.Else-not-is_allowed) → row1_in (form c.before) (base c.before) ≡ false
+good c = not-true _ (sym c.is_allowed.ensures ∙ c.if-not-is_allowed.false)
 
-returns : tie.Need-returns
+returns : tie.Need-returns-then-not-is_allowed
 returns c =
     let j = c.before in
-    row_1_base (form j) (base j) (patch j) (not-false _ (sym j.is-allowed.ensures ∙ not-true _ c.if1.true))
+    row_1_base (form j) (base j) (patch j) (not-false _ (sym j.is_allowed.ensures ∙ c.if-not-is_allowed.true))
 
-returns-2 : tie.Need-returns-2
+returns-2 : tie.Need-returns-then-not-is_allowed-2
 returns-2 c =
     let k = c.before in
     let j = k.before.before in
-    row_1_patch (form j) (base j) (patch j) (good k.before) (not-false _ (sym k.is-allowed2.ensures ∙ not-true _ c.if2.true))
+    row_1_patch (form j) (base j) (patch j) (good k.before) (not-false _ (sym k.is_allowed-2.ensures ∙ c.if-not-is_allowed-2.true))
 
-returns-3 : tie.Need-returns-3
+returns-3 : tie.Need-returns
 returns-3 c =
     let k = c.before in
     let j = k.before.before in
-    row_1_lengths (form j) (base j) (patch j) (good k.before) (not-true _ (sym k.is-allowed2.ensures ∙ not-false _ c.if2.false))
+    row_1_lengths (form j) (base j) (patch j) (good k.before) (not-true _ (sym k.is_allowed-2.ensures ∙ c.if-not-is_allowed-2.false))
 
-pub are-allowed-spec : {M : Type 1} → statement M
-are-allowed-spec = tie.close (tie.spec (λ c κs. search rules) returns (λ c κs. search rules) returns-2 returns-3)
+pub are_allowed_spec : {M : Type 1} → statement M
+are_allowed_spec = tie.close (tie.spec (λ c κs. search rules) returns (λ c κs. search rules) returns-2 returns-3)

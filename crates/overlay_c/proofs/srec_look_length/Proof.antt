@@ -8,7 +8,7 @@ use Rattle.overlay_c.proofs.srec_look_length.Statement.{statement}
 use Rattle.overlay_c.proofs.srec_look_length.Tie as tie
 
 returns : tie.Need-returns
-returns c = ap (λ (l : List ℕ). length l) c.look.ensures.0
+returns c = ap (λ (l : List ℕ). length l) c.look-part.ensures.0
 
-pub srec-look-length-spec : {M : Type 1} → statement M
-srec-look-length-spec = tie.close (tie.spec (λ c κs. search rules) returns)
+pub srec_look_length_spec : {M : Type 1} → statement M
+srec_look_length_spec = tie.close (tie.spec (λ c κs. search rules) returns)

@@ -7,8 +7,8 @@ use Rattle.packed_c.proofs.srec_load_packed.Tie as tie
 
 returns : tie.Need-returns
 returns c =
-    let l = c.before.before.before.before.before.load-as.ensures in
+    let l = c.load_as-loaded.ensures in
     (ap (λ (x : Loaded). x.refusal.reason) l.0, l.1)
 
-pub srec-load-packed-spec : {M : Type 1} → statement M
-srec-load-packed-spec = tie.close (tie.spec (λ c κs. search rules) (λ c. search rules) (λ c. search rules) returns)
+pub srec_load_packed_spec : {M : Type 1} → statement M
+srec_load_packed_spec = tie.close (tie.spec (λ c κs. search rules) (λ c. search rules) (λ c. search rules) returns)

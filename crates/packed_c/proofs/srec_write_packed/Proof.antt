@@ -7,8 +7,8 @@ use Rattle.packed_c.proofs.srec_write_packed.Tie as tie
 
 returns : tie.Need-returns
 returns c =
-    let w = c.before.before.write_as.ensures in
+    let w = c.write_as-written.ensures in
     (ap (λ (x : Written). x.length) w.0, w.1)
 
-pub srec-write-packed-spec : {M : Type 1} → statement M
-srec-write-packed-spec = tie.close (tie.spec (λ c κs. search rules) (λ c. search rules) returns)
+pub srec_write_packed_spec : {M : Type 1} → statement M
+srec_write_packed_spec = tie.close (tie.spec (λ c κs. search rules) (λ c. search rules) returns)

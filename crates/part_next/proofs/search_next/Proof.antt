@@ -14,39 +14,39 @@ use Rattle.part_next.proofs.search_next.Statement.{statement}
 use Rattle.part_next.proofs.search_next.Tie as tie
 
 -- places: the call, where the line's end was found
-abbrev call : tie.After-count-chars → tie.Start
+abbrev call : tie.After-count_chars → tie.Start
 call c = c.before.before.before.before.before
 
 -- where the line begins and ends
-abbrev first : tie.After-count-chars → ℕ
-first c = (call c).args.at + c.before.before.count-gaps.result
+abbrev first : tie.After-count_chars → ℕ
+first c = (call c).args.at + c.count_gaps.result
 
-abbrev last : tie.After-count-chars → ℕ
-last c = first c + c.count-chars.result
+abbrev last : tie.After-count_chars → ℕ
+last c = first c + c.count_chars.result
 
-begins : (c : tie.After-count-chars) → first c ≡ begin_of (call c).args.part.now (call c).args.at
-begins c = let a = (call c).args in from_is is_end a.part.now a.at _ c.before.before.count-gaps.ensures.0
+begins : (c : tie.After-count_chars) → first c ≡ begin_of (call c).args.part.now (call c).args.at
+begins c = let a = (call c).args in from_is is_end a.part.now a.at _ c.count_gaps.ensures.0
 
-ends : (c : tie.After-count-chars) → last c ≡ end_of (call c).args.part.now (first c)
+ends : (c : tie.After-count_chars) → last c ≡ end_of (call c).args.part.now (first c)
 ends c =
-    ap (λ (k : ℕ). first c + k) (c.count-chars.ensures.0 ∙ ap (λ l. length (front is_end l)) (rest (first c) (call c).args.part.now))
+    ap (λ (k : ℕ). first c + k) (c.count_chars.ensures.0 ∙ ap (λ l. length (front is_end l)) (rest (first c) (call c).args.part.now))
 
-returns : tie.Need-returns
-returns c = let j = c.before in next_none _ _ _ _ (first j) (last j) (begins j) (ends j) c.if1.true
+returns : tie.Need-returns-then-to-part
+returns c = let j = c.before in next_none _ _ _ _ (first j) (last j) (begins j) (ends j) c.if-to-part.true
 
-step-of-requires : tie.Need-step-of-requires
+step-of-requires : tie.Need-step_of-step-requires
 step-of-requires c κs =
     let j = c.before.before in
     let s = call j in
-    let r = room s.args.total s.args.state s.args.part.now (first j) (last j) s.pre.2 (omega arith) (omega arith) in
-    ((s.pre.0, r.0), r.1)
+    let r = room s.args.total s.args.state s.args.part.now (first j) (last j) s.requires.2 (omega arith) (omega arith) in
+    ((s.requires.0, r.0), r.1)
 
-returns-2 : tie.Need-returns-2
+returns-2 : tie.Need-returns
 returns-2 c = let j = c.before.before.before in
-    next_line _ _ _ _ (first j) (last j) (begins j) (ends j) (omega arith) _ c.step_of_lem.ensures
+    next_line _ _ _ _ (first j) (last j) (begins j) (ends j) (omega arith) _ c.step_of-step.ensures
 
-pub search-next-spec : {M : Type 1} → statement M
-search-next-spec =
+pub search_next_spec : {M : Type 1} → statement M
+search_next_spec =
     tie.close
     (tie.spec
     (λ c. search rules)

@@ -11,39 +11,39 @@ use Rattle.part_next.proofs.take_next.Statement.{statement}
 use Rattle.part_next.proofs.take_next.Tie as tie
 
 -- places: the call, where the line's end was counted
-abbrev call : tie.After-counted-end → tie.Start
+abbrev call : tie.After-counted_end-to → tie.Start
 call c = c.before.before.before.before
 
 -- where the line begins, and where it may end
-abbrev first : tie.After-counted-end → ℕ
-first c = (call c).args.at + c.before.count-gaps.result
+abbrev first : tie.After-counted_end-to → ℕ
+first c = (call c).args.at + c.count_gaps.result
 
-abbrev last : tie.After-counted-end → ℕ
-last c = c.counted-end.result
+abbrev last : tie.After-counted_end-to → ℕ
+last c = c.counted_end-to.result
 
-begins : (c : tie.After-counted-end) → first c ≡ begin_of (call c).args.part.now (call c).args.at
-begins c = let a = (call c).args in from_is is_end a.part.now a.at _ c.before.count-gaps.ensures.0
+begins : (c : tie.After-counted_end-to) → first c ≡ begin_of (call c).args.part.now (call c).args.at
+begins c = let a = (call c).args in from_is is_end a.part.now a.at _ c.count_gaps.ensures.0
 
-good-step-requires : tie.Need-good-step-requires
+good-step-requires : tie.Need-good_step-answer-requires
 good-step-requires c κs =
     let j = c.before.before in
     let s = call j in
-    let e = j.counted-end.ensures in
-    let r = room s.args.total s.args.state s.args.part.now (first j) (last j) s.pre.2 e.0 e.1 in
-    ((s.pre.0, r.0), r.1)
+    let e = j.counted_end-to.ensures in
+    let r = room s.args.total s.args.state s.args.part.now (first j) (last j) s.requires.2 e.0 e.1 in
+    ((s.requires.0, r.0), r.1)
 
-returns-3 : tie.Need-returns-3
+returns-3 : tie.Need-returns
 returns-3 c =
-    let at-good-step = c.before.before.before in
+    let at-good-step = c.before in
     let at-else = at-good-step.before.before in
     let j = at-else.before in
-    let e = j.counted-end.ensures in
-    let y = sure_end _ _ (call j).args.part.now (first j) (last j) e.0 e.1 e.2 _ _ c.before.answer.given.1
-    at-good-step.good-step.ensures in
-    next_line _ _ _ _ (first j) (last j) (begins j) y.0 (omega (arith, e.1, at-else.if1.false)) _ y.1
+    let e = j.counted_end-to.ensures in
+    let y = sure_end _ _ (call j).args.part.now (first j) (last j) e.0 e.1 e.2 _ _ c.in-Yes.is
+    at-good-step.good_step-answer.ensures in
+    next_line _ _ _ _ (first j) (last j) (begins j) y.0 (omega (arith, e.1, at-else.if-to-part.false)) _ y.1
 
-pub take-next-spec : {M : Type 1} → statement M
-take-next-spec =
+pub take_next_spec : {M : Type 1} → statement M
+take_next_spec =
     tie.close
     (tie.spec
     (λ c. search rules)

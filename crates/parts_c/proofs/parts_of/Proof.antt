@@ -8,8 +8,8 @@ use Rattle.parts_c.proofs.parts_of.Tie as tie
 returns : tie.Need-returns
 unfolding parts_of
 returns c =
-    let s = c.before.before.before.before.before.before.before.before.args.session in
-    rw (c.before.flag.ensures, c.address-of.ensures) (by_test s.tally.ended (λ e. rw e) (λ e. rw e))
+    let s = c.args.session in
+    rw (c.flag.ensures, c.address_of.ensures) (by_test s.tally.ended (λ e. rw e) (λ e. rw e))
 
-pub parts-of-spec : {M : Type 1} → statement M
-parts-of-spec = tie.close (tie.spec (λ c. search rules) (λ c κs. search rules) (λ c κs. search rules) returns)
+pub parts_of_spec : {M : Type 1} → statement M
+parts_of_spec = tie.close (tie.spec (λ c. search rules) (λ c κs. search rules) (λ c κs. search rules) returns)

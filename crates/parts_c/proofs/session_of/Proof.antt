@@ -6,7 +6,7 @@ use Rattle.parts_c.proofs.session_of.Tie as tie
 
 returns : tie.Need-returns
 unfolding session_of
-returns c = rw c.before.before.before.entry-for.ensures
+returns c = rw c.entry_for-entry.ensures
 
-pub session-of-spec : {M : Type 1} → statement M
-session-of-spec = tie.close (tie.spec (λ c κs. search rules) returns)
+pub session_of_spec : {M : Type 1} → statement M
+session_of_spec = tie.close (tie.spec (λ c κs. search rules) returns)

@@ -7,8 +7,8 @@ use Rattle.parts_c.proofs.srec_begin.Tie as tie
 
 returns : tie.Need-returns
 returns c =
-    let b = c.before.before.before.begin.ensures in
-    (shown _ b.1.1 _ c.parts-of.ensures ∙ b.0, b.1.0)
+    let b = c.begin-fresh.ensures in
+    (shown _ b.1.1 _ c.parts_of.ensures ∙ b.0, b.1.0)
 
-pub srec-begin-spec : {M : Type 1} → statement M
-srec-begin-spec = tie.close (tie.spec (λ c κs. search rules) (λ c κs. search rules) (λ c. search rules) returns)
+pub srec_begin_spec : {M : Type 1} → statement M
+srec_begin_spec = tie.close (tie.spec (λ c κs. search rules) (λ c κs. search rules) (λ c. search rules) returns)

@@ -13,16 +13,16 @@ returns : tie.Need-returns
 returns c =
     let at-feed = c.before.before.before.before.before in
     let at-session = at-feed.before.before.before in
-    let a = at-session.before.before.before.before.args in
-    let e = at-feed.feed.ensures in
-    let q = at-session.session-of.ensures in
+    let a = at-session.args in
+    let e = at-feed.feed-next.ensures in
+    let q = at-session.session_of-session.ensures in
     let w = left a.parts _ q (λ (form : Form) (st : Status). feed_as form st (window_of a.base a.memory.now a.marks.now) a.part.now) in (
-      shown _ (e.1.1.1 ∙ in_bytes a.parts _ q) _ c.parts-of.ensures ∙ e.0 ∙ ap (λ (x : Stage). x.status) w,
+      shown _ (e.1.1.1 ∙ in_bytes a.parts _ q) _ c.parts_of.ensures ∙ e.0 ∙ ap (λ (x : Stage). x.status) w,
       (e.1.0 ∙ ap (λ (x : Stage). x.memory) w, e.1.1.0 ∙ ap (λ (x : Stage). x.marks) w),
     )
 
-pub srec-feed-spec : {M : Type 1} → statement M
-srec-feed-spec =
+pub srec_feed_spec : {M : Type 1} → statement M
+srec_feed_spec =
     tie.close
     (tie.spec
     (λ c κs. search rules)

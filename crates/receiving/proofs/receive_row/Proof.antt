@@ -10,14 +10,14 @@ receive-requires c κs =
     let t = c.before.before in
     let s = t.before.before.before.before.before in
     let a = s.args in
-    named_asks a.memory.now a.marks.now a.cells.now a.flags.now 16 t.if1.true s.requires
+    named_asks a.memory.now a.marks.now a.cells.now a.flags.now 16 t.if-size-eq16.true s.requires
 
-returns : tie.Need-returns
+returns : tie.Need-returns-then-size-eq16
 returns c =
     let r = c.before.before.before.before in
     let t = r.before.before.before in
-    let a = t.before.before.before.before.before.args in
-    named_gives a.memory.now a.marks.now a.cells.now a.flags.now 16 t.if1.true _ _ r.receive.ensures
+    let a = t.args in
+    named_gives a.memory.now a.marks.now a.cells.now a.flags.now 16 t.if-size-eq16.true _ _ r.receive.ensures
 
 receive-requires-2 : tie.Need-receive-requires-2
 receive-requires-2 c κs =
@@ -25,7 +25,7 @@ receive-requires-2 c κs =
     let a = s.args in
     named_asks a.memory.now a.marks.now a.cells.now a.flags.now _ refl s.requires
 
-pub receive-row-spec : {M : Type 1} → statement M
-receive-row-spec =
+pub receive_row_spec : {M : Type 1} → statement M
+receive_row_spec =
     tie.close
     (tie.spec receive-requires (λ c. search rules) (λ c. search rules) returns receive-requires-2 (λ c. search rules) (λ c. search rules) (λ c. search rules))

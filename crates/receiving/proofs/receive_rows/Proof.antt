@@ -10,37 +10,37 @@ receive-requires c κs =
     let t = c.before.before in
     let s = t.before.before.before.before.before in
     let a = s.args in
-    named_asks a.memory.now a.marks.now a.cells.now a.flags.now 32 t.if1.true s.requires
+    named_asks a.memory.now a.marks.now a.cells.now a.flags.now 32 t.if-size-eq32.true s.requires
 
-returns : tie.Need-returns
+returns : tie.Need-returns-then-size-eq32
 returns c =
     let r = c.before.before.before.before in
     let t = r.before.before.before in
-    let a = t.before.before.before.before.before.args in
-    named_gives a.memory.now a.marks.now a.cells.now a.flags.now 32 t.if1.true _ _ r.receive.ensures
+    let a = t.args in
+    named_gives a.memory.now a.marks.now a.cells.now a.flags.now 32 t.if-size-eq32.true _ _ r.receive.ensures
 
-receive-requires-2 : tie.Need-receive-requires-2
+receive-requires-2 : tie.Need-receive-requires-then-size-eq64
 receive-requires-2 c κs =
     let t = c.before.before in
     let s = t.before.before.before.before.before.before in
     let a = s.args in
-    named_asks a.memory.now a.marks.now a.cells.now a.flags.now 64 t.if2.true s.requires
+    named_asks a.memory.now a.marks.now a.cells.now a.flags.now 64 t.if-size-eq64.true s.requires
 
-returns-2 : tie.Need-returns-2
+returns-2 : tie.Need-returns-then-size-eq64
 returns-2 c =
     let r = c.before.before.before.before in
     let t = r.before.before.before in
-    let a = t.before.before.before.before.before.before.args in
-    named_gives a.memory.now a.marks.now a.cells.now a.flags.now 64 t.if2.true _ _ r.receive2.ensures
+    let a = t.args in
+    named_gives a.memory.now a.marks.now a.cells.now a.flags.now 64 t.if-size-eq64.true _ _ r.receive-then-size-eq64.ensures
 
-receive-requires-3 : tie.Need-receive-requires-3
+receive-requires-3 : tie.Need-receive-requires-2
 receive-requires-3 c κs =
     let s = c.before.before.before.before.before.before.before.before in
     let a = s.args in
     named_asks a.memory.now a.marks.now a.cells.now a.flags.now _ refl s.requires
 
-pub receive-rows-spec : {M : Type 1} → statement M
-receive-rows-spec =
+pub receive_rows_spec : {M : Type 1} → statement M
+receive_rows_spec =
     tie.close
     (tie.spec
     receive-requires

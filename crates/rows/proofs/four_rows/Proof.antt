@@ -13,11 +13,11 @@ returns c =
     let third = c.before in
     let second = third.before in
     let first = second.before in
-    let words = first.before.args.words.now in
-    of_four (λ n r. Filled (λ i. byte_of n (get_or words i 0)) 16 r) 4 _ _ _ _ first.lane.ensures second.lane2.ensures refl third.lane3.ensures c.lane4.ensures
+    let words = first.args.words.now in
+    of_four (λ n r. Filled (λ i. byte_of n (get_or words i 0)) 16 r) 4 _ _ _ _ first.lane.ensures second.lane-2.ensures refl third.lane-3.ensures c.lane-4.ensures
 
-pub four-rows-spec : {M : Type 1} → statement M
-four-rows-spec =
+pub four_rows_spec : {M : Type 1} → statement M
+four_rows_spec =
     tie.close
     (tie.spec
     (λ c κs. search rules)

@@ -10,8 +10,8 @@ use Rattle.rows.proofs.two_rows.Tie as tie
 
 returns : tie.Need-returns
 returns c =
-    let words = c.before.before.args.words.now in
-    of_two (λ n r. Filled (λ i. byte_of n (get_or words i 0)) 16 r) 2 _ _ _ _ c.before.lane.ensures c.lane2.ensures refl
+    let words = c.args.words.now in
+    of_two (λ n r. Filled (λ i. byte_of n (get_or words i 0)) 16 r) 2 _ _ _ _ c.lane.ensures c.lane-2.ensures refl
 
-pub two-rows-spec : {M : Type 1} → statement M
-two-rows-spec = tie.close (tie.spec (λ c κs. search rules) (λ c. search rules) (λ c κs. search rules) (λ c. search rules) returns)
+pub two_rows_spec : {M : Type 1} → statement M
+two_rows_spec = tie.close (tie.spec (λ c κs. search rules) (λ c. search rules) (λ c κs. search rules) (λ c. search rules) returns)

@@ -15,7 +15,7 @@ returns c =
     let a = s.args in
     let fs = flags a.form a.cells a.marks.now in
     let l : length fs ≡ a.cells = flags_length a.form a.cells a.marks.now s.requires.1 in
-    marked_at fs a.at c.run-end.result (omega arith) c.run-end.ensures
+    marked_at fs a.at c.run_end.result (omega arith) c.run_end.ensures
 
-pub is-marked-spec : {M : Type 1} → statement M
-is-marked-spec = tie.close (tie.spec (λ c κs. search rules) returns)
+pub is_marked_spec : {M : Type 1} → statement M
+is_marked_spec = tie.close (tie.spec (λ c κs. search rules) returns)

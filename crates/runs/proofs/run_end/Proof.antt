@@ -10,37 +10,37 @@ use Rattle.runs.proofs.run_end.Tie as tie
 abbrev call : tie.After-smaller → tie.Start
 call c = c.before.before
 
-end-byte-requires : tie.Need-end-byte-requires
+end-byte-requires : tie.Need-end_byte-requires
 end-byte-requires c κs =
-    let s = call c.before.before in
-    let e = bytes_long s.args.form s.args.cells s.args.marks.now s.pre.1 c.enum_told.given.1 in omega arith
+    let s = call c.before in
+    let e = bytes_long s.args.form s.args.cells s.args.marks.now s.requires.1 c.in-Bytes.is in omega arith
 
-next-clear-requires : tie.Need-next-clear-requires
+next-clear-requires : tie.Need-next_clear-requires
 next-clear-requires c κs =
-    let s = call c.before.before in
-    let e = packed_long s.args.form s.args.cells s.args.marks.now s.pre.1 c.enum-told2.given.1 in omega arith
+    let s = call c.before in
+    let e = packed_long s.args.form s.args.cells s.args.marks.now s.requires.1 c.in-Packed.is in omega arith
 
-returns : tie.Need-returns
+returns : tie.Need-returns-in-Bytes
 returns c =
-    let told = c.before.enum_told.given.1 in
-    let few = c.before.before.before in
+    let told = c.in-Bytes.is in
+    let few = c.before.before in
     let s = call few in
     let a = s.args in
     rw told
-    (run_bytes a.cells a.marks.now a.at a.most few.smaller.result c.end-byte.result s.pre.0 few.smaller.ensures
-    (bytes_long a.form a.cells a.marks.now s.pre.1 told) c.end-byte.ensures)
+    (run_bytes a.cells a.marks.now a.at a.most few.smaller.result c.end_byte.result s.requires.0 few.smaller.ensures
+    (bytes_long a.form a.cells a.marks.now s.requires.1 told) c.end_byte.ensures)
 
-returns-2 : tie.Need-returns-2
+returns-2 : tie.Need-returns-in-Packed
 returns-2 c =
-    let few = c.before.before.before in
+    let few = c.before.before in
     let s = call few in
     let a = s.args in
-    rw c.before.enum-told2.given.1
-    (run_packed a.cells a.marks.now a.at a.most few.smaller.result c.next-clear.result s.pre.0 few.smaller.ensures
-    c.next-clear.ensures)
+    rw c.in-Packed.is
+    (run_packed a.cells a.marks.now a.at a.most few.smaller.result c.next_clear.result s.requires.0 few.smaller.ensures
+    c.next_clear.ensures)
 
-pub run-end-spec : {M : Type 1} → statement M
-run-end-spec =
+pub run_end_spec : {M : Type 1} → statement M
+run_end_spec =
     tie.close
     (tie.spec
     (λ c. search rules)

@@ -7,7 +7,7 @@ use Rattle.session.proofs.halt.Tie as tie
 returns : tie.Need-returns
 returns c =
     let at_clear = c.before.before.before in
-    (shows_refusal c.stop.result _ c.stop.ensures.0 at_clear.before.before.before.requires, (at_clear.clear.ensures, c.stop.ensures.1))
+    (shows_refusal c.stop.result _ c.stop.ensures.0 at_clear.requires, (at_clear.clear.ensures, c.stop.ensures.1))
 
-pub halt-spec : {M : Type 1} → statement M
-halt-spec = tie.close (tie.spec (λ c κs. search rules) (λ c κs. search rules) (λ c. search rules) returns)
+pub halt_spec : {M : Type 1} → statement M
+halt_spec = tie.close (tie.spec (λ c κs. search rules) (λ c κs. search rules) (λ c. search rules) returns)

@@ -13,30 +13,30 @@ use Rattle.session.proofs.is_barred.Statement.{statement}
 use Rattle.session.proofs.is_barred.Tie as tie
 
 -- the window that is lent
-abbrev window : tie.After-is-allowed → Window
-window c = let a = c.before.before.before.args in window_of a.base a.memory.now a.marks.now
+abbrev window : tie.After-is_allowed → Window
+window c = let a = c.args in window_of a.base a.memory.now a.marks.now
 
-abbrev form : tie.After-is-allowed → Form
-form c = c.before.before.before.args.session.form
+abbrev form : tie.After-is_allowed → Form
+form c = c.args.session.form
 
 -- it is refused, or allowed
-refused : (c : tie.Then1) → row1_in (form c.before) (window c.before) ≡ true
-refused c = not-false (row1_in (form c.before) (window c.before)) (sym c.before.is-allowed.ensures ∙ not-true c.before.is-allowed.result c.if1.true)
+refused : (c : tie.Then-not-is_allowed) → row1_in (form c.before) (window c.before) ≡ true
+refused c = not-false (row1_in (form c.before) (window c.before)) (sym c.is_allowed.ensures ∙ c.if-not-is_allowed.true)
 
-allowed : (c : tie.Else1) → row1_in (form c.before) (window c.before) ≡ false
-allowed c = not-true (row1_in (form c.before) (window c.before)) (sym c.before.is-allowed.ensures ∙ not-false c.before.is-allowed.result c.if1.false)
+allowed : (c : tie.Else-not-is_allowed) → row1_in (form c.before) (window c.before) ≡ false
+allowed c = not-true (row1_in (form c.before) (window c.before)) (sym c.is_allowed.ensures ∙ c.if-not-is_allowed.false)
 
-returns : tie.Need-returns
+returns : tie.Need-returns-then-not-is_allowed
 unfolding row1_later_in
 returns c = rw (refused c)
 
-returns-2 : tie.Need-returns-2
+returns-2 : tie.Need-returns-then-memory-session
 unfolding row1_later_in row1_later
-returns-2 c = let j = c.before.before in rw (allowed j, plain_allowed (form j.before) (window j.before) (allowed j), ne_eqb _ _ c.if2.true)
+returns-2 c = let j = c.before.before in rw (allowed j, plain_allowed (form j.before) (window j.before) (allowed j), ne_eqb _ _ c.if-memory-session.true)
 
-returns-3 : tie.Need-returns-3
+returns-3 : tie.Need-returns
 unfolding row1_later_in row1_later
-returns-3 c = let j = c.before.before.before in rw (allowed j, plain_allowed (form j.before) (window j.before) (allowed j), eq-eqb _ _ c.before.if2.false, c.is-possible.ensures)
+returns-3 c = let j = c.before.before.before in rw (allowed j, plain_allowed (form j.before) (window j.before) (allowed j), eq-eqb _ _ c.if-memory-session.false, c.is_possible.ensures)
 
-pub is-barred-spec : {M : Type 1} → statement M
-is-barred-spec = tie.close (tie.spec (λ c κs. search rules) returns returns-2 (λ c κs. search rules) returns-3)
+pub is_barred_spec : {M : Type 1} → statement M
+is_barred_spec = tie.close (tie.spec (λ c κs. search rules) returns returns-2 (λ c κs. search rules) returns-3)

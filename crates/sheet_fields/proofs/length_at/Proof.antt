@@ -7,10 +7,10 @@ use Rattle.sheet_fields.proofs.length_at.Tie as tie
 
 returns : tie.Need-returns
 unfolding length_at
-returns c = (rw (c.before.byte_at.ensures, c.byte-at2.ensures), omega arith)
+returns c = (rw (c.byte_at.ensures, c.byte_at-2.ensures), omega arith)
 
-pub length-at-spec : {M : Type 1} → statement M
-length-at-spec =
+pub length_at_spec : {M : Type 1} → statement M
+length_at_spec =
     tie.close
     (tie.spec
     (λ c. search rules)

@@ -9,40 +9,40 @@ use Rattle.sheet_fields.proofs.second_at.Statement.{statement}
 use Rattle.sheet_fields.proofs.second_at.Tie as tie
 
 -- another tag
-returns : tie.Need-returns
+returns : tie.Need-returns-then-sheet-mid-ne-BYTES
 returns c =
     let t = c.before in
-    let a = t.before.before.before.args in
-    c.bad.ensures ∙ second_tag a.sheet.now a.mid a.address t.if1.true
+    let a = t.args in
+    c.bad.ensures ∙ second_tag a.sheet.now a.mid a.address t.if-sheet-mid-ne-BYTES.true
 
 -- no length
-returns-2 : tie.Need-returns-2
+returns-2 : tie.Need-returns-then-left-lt-HEAD
 returns-2 c =
     let t = c.before in
     let e = t.before in
-    let a = e.before.before.before.args in
-    c.bad2.ensures ∙ second_short a.sheet.now a.mid a.address e.if1.false (omega (arith, end_is a.sheet.now a.mid))
+    let a = e.args in
+    c.bad-then-left-lt-HEAD.ensures ∙ second_short a.sheet.now a.mid a.address e.if-sheet-mid-ne-BYTES.false (omega (arith, end_is a.sheet.now a.mid))
 
 -- cut short
-returns-3 : tie.Need-returns-3
+returns-3 : tie.Need-returns-then-left-n
 returns-3 c =
     let t = c.before in
     let n = t.before in
     let e = n.before.before in
-    let a = e.before.before.before.args in
-    c.bad3.ensures ∙ second_short a.sheet.now a.mid a.address e.if1.false (omega (arith, end_is a.sheet.now a.mid, n.length-at.ensures.0))
+    let a = e.args in
+    c.bad-then-left-n.ensures ∙ second_short a.sheet.now a.mid a.address e.if-sheet-mid-ne-BYTES.false (omega (arith, end_is a.sheet.now a.mid, n.length_at-n.ensures.0))
 
-returns-4 : tie.Need-returns-4
+returns-4 : tie.Need-returns
 returns-4 c =
     let n = c.before in
     let e = n.before.before in
-    let a = e.before.before.before.args in
-    let l = n.length-at.ensures.0 in
+    let a = e.args in
+    let l = n.length_at-n.ensures.0 in
     ap (λ (k : ℕ). Store a.mid a.address (a.mid + 3) (a.mid + 3 + k)) l ∙ ap (Store a.mid a.address (a.mid + 3)) (sym (end_is a.sheet.now a.mid))
-    ∙ second_good a.sheet.now a.mid a.address e.if1.false (omega (arith, end_is a.sheet.now a.mid, l))
+    ∙ second_good a.sheet.now a.mid a.address e.if-sheet-mid-ne-BYTES.false (omega (arith, end_is a.sheet.now a.mid, l))
 
-pub second-at-spec : {M : Type 1} → statement M
-second-at-spec =
+pub second_at_spec : {M : Type 1} → statement M
+second_at_spec =
     tie.close
     (tie.spec
     (λ c. search rules)

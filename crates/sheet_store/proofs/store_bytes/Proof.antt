@@ -5,7 +5,7 @@ use native.Mathlib.Nat.{add-sub_cancel_left}
 use native.Mathlib.Omega.{arith}
 use lib.ListN.{length, take, drop}
 use Rattle.lists.specs.Lists.{over}
-use Rattle.lists.proofs.PartLaws.{lent_length, copied}
+use Rattle.lists.proofs.PartLaws.{lent_length}
 use Rattle.lists.proofs.OverLaws.{lent_over}
 use Rattle.sheet_store.proofs.StoreLaws.{over_none, in_window}
 use borrow.Author.Rules.{rules}
@@ -13,37 +13,40 @@ use Rattle.sheet_store.proofs.store_bytes.Statement.{statement}
 use Rattle.sheet_store.proofs.store_bytes.Tie as tie
 
 -- the bytes lie in the window
-in-at : (c : tie.Else1) → let a = c.before.before.before.args in
+in-at : (c : tie.Else-count-eq0) → let a = c.args in
     (a.base ≤ a.address) × (a.address + length a.bytes.now ≤ a.base + length a.memory.now)
 in-at c =
-    let a = c.before.before.before.args in
-    in_window a.base (length a.memory.now) a.address (length a.bytes.now) c.before.before.before.requires c.if1.false
+    let a = c.args in
+    in_window a.base (length a.memory.now) a.address (length a.bytes.now) c.requires c.if-count-eq0.false
 
-returns : tie.Need-returns
-returns c = let a = c.before.before.before.args in over_none a.memory.now (a.address - a.base) a.bytes.now c.if1.true
+returns : tie.Need-returns-then-count-eq0
+returns c = let a = c.args in over_none a.memory.now (a.address - a.base) a.bytes.now c.if-count-eq0.true
 
-sub-from : tie.Need-overflow-sub-from
+sub-from : tie.Need-overflow_sub-from
 sub-from c = (in-at c).0
 
-add-to : tie.Need-overflow-add-to
+add-to : tie.Need-overflow_add-to
 add-to c = omega (arith, in-at c)
 
-part-copy-end : tie.Need-slice-bounds-copy-end
+part-copy-end : tie.Need-slice_bounds-copy_from_slice-end
 part-copy-end c = omega (arith, in-at c)
 
-returns-2 : tie.Need-returns-2
+-- the part that is written is as long as the bytes
+long : (c : tie.Else-count-eq0) → let a = c.args in let i = a.address - a.base in let n = length a.bytes.now in
+    length (take (i + n - i) (drop i a.memory.now)) ≡ n
+long c = let a = c.args in lent_length a.memory.now (a.address - a.base) (length a.bytes.now) (omega (arith, in-at c))
+
+returns-2 : tie.Need-returns
 returns-2 c =
     let p = c.before.before in
-    let e = p.before.before in
-    let a = e.before.before.before.args in
+    let a = c.args in
     let i = a.address - a.base in
     let n = length a.bytes.now in
-    let long : length (take (i + n - i) (drop i a.memory.now)) ≡ n = lent_length a.memory.now i n (omega (arith, in-at e)) in
-    let stored = p.copy.ensures.1 ∙ copied a.bytes.now _ long in
-    lent_over i (i + n - i) a.memory.now p.copy.new.1.0 (add-sub_cancel_left i n ∙ ap length (sym stored)) ∙ ap (over a.memory.now i) stored
+    let stored = p.copy_from_slice.ensures.1 in
+    lent_over i (i + n - i) a.memory.now p.copy_from_slice.new.self (add-sub_cancel_left i n ∙ ap length (sym stored)) ∙ ap (over a.memory.now i) stored
 
-pub store-bytes-spec : {M : Type 1} → statement M
-store-bytes-spec =
+pub store_bytes_spec : {M : Type 1} → statement M
+store_bytes_spec =
     tie.close
     (tie.spec
     returns
@@ -52,6 +55,6 @@ store-bytes-spec =
     (λ c. search rules)
     (λ c. search rules)
     part-copy-end
-    (λ c κs. search rules)
+    (λ c κs. (search rules, long c.before))
     (λ c. search rules)
     returns-2)

@@ -9,32 +9,31 @@ use borrow.Author.Rules.{rules}
 use Rattle.sheet_survey.proofs.sheet_span.Statement.{statement}
 use Rattle.sheet_survey.proofs.sheet_span.Tie as tie
 
-abbrev start : tie.After-read-block → tie.Start
+abbrev start : tie.After-read_block-block → tie.Start
 start b = b.before.before.before
 
 -- the table stands in the text
-inside : (c : tie.After-known-told) → let b = c.before.before.before in let g = c.before.block.given in
-    (g.0.0 ≤ g.0.1.0) × (g.0.1.0 + 2 ≤ length (start b).args.text.now)
-inside c = let b = c.before.before.before in subst (Inside (start b).args.text.now) c.before.block.given.1 b.read-block.ensures.1
+inside : (c : tie.In-Table) → let b = c.before in (c.in-Table.from ≤ c.in-Table.to) × (c.in-Table.to + 2 ≤ length (start b).args.text.now)
+inside c = let b = c.before in subst (Inside (start b).args.text.now) c.in-Table.is b.read_block-block.ensures.1
 
-returns : tie.Need-returns
+returns : tie.Need-returns-in_default
 unfolding sheet_span
 returns c =
     let t = c.before in
-    let b = t.before.before in
+    let b = t.before in
     let a = (start b).args in
-    c.no_span.ensures ∙ ap (span_behind a.text.now a.sheet.now) (sym t.enum_told.given.1 ∙ b.read-block.ensures.0)
+    c.no_span.ensures ∙ ap (span_behind a.text.now a.sheet.now) (sym t.in_default.is ∙ b.read_block-block.ensures.0)
 
-returns-2 : tie.Need-returns-2
+returns-2 : tie.Need-returns
 unfolding sheet_span
 returns-2 c =
-    let t = c.before.before.before in
-    let b = t.before.before in
+    let t = c.before.before in
+    let b = t.before in
     let a = (start b).args in
-    c.table-span.ensures ∙ ap (span_behind a.text.now a.sheet.now) (sym t.block.given.1 ∙ b.read-block.ensures.0)
+    c.table_span.ensures ∙ ap (span_behind a.text.now a.sheet.now) (sym t.in-Table.is ∙ b.read_block-block.ensures.0)
 
-pub sheet-span-spec : {M : Type 1} → statement M
-sheet-span-spec =
+pub sheet_span_spec : {M : Type 1} → statement M
+sheet_span_spec =
     tie.close
     (tie.spec
     (λ c κs. search rules)

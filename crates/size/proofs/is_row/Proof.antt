@@ -12,38 +12,38 @@ use Rattle.size.proofs.is_row.Statement.{statement}
 use Rattle.size.proofs.is_row.Tie as tie
 
 -- the call, where the format is known
-abbrev call : tie.After-enum-told → tie.Start
-call c = c.before.before.before
+abbrev call : tie.In-Records → tie.Start
+call c = c.before.before
 
 -- and where the form of the marks is
-abbrev past : tie.After-enum-told3 → tie.Else1
-past c = c.before.before
+abbrev past : tie.In-Bytes → tie.Else-most_cells-ne-ROW
+past c = c.before
 
-long : (c : tie.After-enum-told3) → let a = (call (past c).before.before).args in length a.marks.now ≡ a.cells
+long : (c : tie.In-Bytes) → let a = (call (past c).before.before).args in length a.marks.now ≡ a.cells
 long c =
     let s = call (past c).before.before in
-    bytes_long s.args.form s.args.cells s.args.marks.now s.pre.2 c.enum-told3.given.1
+    bytes_long s.args.form s.args.cells s.args.marks.now s.requires.2 c.in-Bytes.is
 
-is-row-requires : tie.Need-is-row-requires
+is-row-requires : tie.Need-is_row-requires
 is-row-requires c κs = omega (arith, (call (past c).before.before).requires.0, long c)
 
-returns-3 : tie.Need-returns-3
+returns-3 : tie.Need-returns-in-Bytes
 returns-3 c e =
     let told = c.before in
     let at_most = (past told).before in
     let s = call at_most.before in
     let a = s.args in
     let row = c.is_row.ensures e in
-    let sixteen : 16 ≡ suc (follow_of a.format (a.base + a.at)) = sym (past told).if1.false ∙ at_most.most-cells.ensures in (
+    let sixteen : 16 ≡ suc (follow_of a.format (a.base + a.at)) = sym (past told).if-most_cells-ne-ROW.false ∙ at_most.most_cells.ensures in (
       omega (arith, long told, row.0),
-      rw (← sixteen, told.enum-told3.given.1)
-          (run_bytes a.cells a.marks.now a.at 16 16 (a.at + 16) s.pre.0 (omega (arith, long told, row.0)) (long told)
+      rw (← sixteen, told.in-Bytes.is)
+          (run_bytes a.cells a.marks.now a.at 16 16 (a.at + 16) s.requires.0 (omega (arith, long told, row.0)) (long told)
           (ap (λ (n : ℕ). a.at + n) (sym row.1))),
-      at_most.before.enum_told.given.1,
+      at_most.in-Records.is,
     )
 
-pub is-row-spec : {M : Type 1} → statement M
-is-row-spec =
+pub is_row_spec : {M : Type 1} → statement M
+is_row_spec =
     tie.close
     (tie.spec
     (λ c. search rules)

@@ -11,9 +11,9 @@ use Rattle.size.proofs.run_end.Tie as tie
 returns : tie.Need-returns
 returns c =
     let at_most = c.before in
-    let a = at_most.before.before.args in
-    c.run-end.ensures
-    ∙ ap (λ (n : ℕ). a.at + run_on n (drop a.at (flags a.form a.cells a.marks.now))) at_most.most-cells.ensures
+    let a = at_most.args in
+    c.run_end.ensures
+    ∙ ap (λ (n : ℕ). a.at + run_on n (drop a.at (flags a.form a.cells a.marks.now))) at_most.most_cells-most.ensures
 
-pub run-end-spec : {M : Type 1} → statement M
-run-end-spec = tie.close (tie.spec (λ c. search rules) (λ c κs. search rules) (λ c κs. search rules) returns)
+pub run_end_spec : {M : Type 1} → statement M
+run_end_spec = tie.close (tie.spec (λ c. search rules) (λ c κs. search rules) (λ c κs. search rules) returns)

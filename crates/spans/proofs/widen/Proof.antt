@@ -5,19 +5,19 @@ use Rattle.spans.specs.Spans.{widened}
 use Rattle.spans.proofs.widen.Statement.{statement}
 use Rattle.spans.proofs.widen.Tie as tie
 
-returns : tie.Need-returns
+returns : tie.Need-returns-then-count-eq0
 unfolding widened
-returns c = rw (eq-eqb _ _ c.if1.true)
+returns c = rw (eq-eqb _ _ c.if-count-eq0.true)
 
-returns-2 : tie.Need-returns-2
+returns-2 : tie.Need-returns-then-span
 unfolding widened
 returns-2 c =
     let p = c.before.before in
-    rw (ne_eqb _ 0 p.before.if1.false, p.if2.true, c.before.lower.ensures, c.higher.ensures)
+    rw (ne_eqb _ 0 p.before.if-count-eq0.false, p.if-span.true, c.before.lower.ensures, c.higher.ensures)
 
-returns-3 : tie.Need-returns-3
+returns-3 : tie.Need-returns
 unfolding widened
-returns-3 c = rw (ne_eqb _ 0 c.before.if1.false, c.if2.false)
+returns-3 c = rw (ne_eqb _ 0 c.before.if-count-eq0.false, c.if-span.false)
 
 pub widen_spec : {M : Type 1} → statement M
 widen_spec =

@@ -6,11 +6,11 @@ use Rattle.srec_encode.proofs.check_byte.Tie as tie
 
 returns : tie.Need-returns
 returns c =
-    let a = c.before.before.before.before.args in
-    rw (c.sum-bytes2.ensures.0, c.before.sum-bytes.ensures.0) (checksum_parts a.count a.address.now a.bytes.now)
+    let a = c.args in
+    rw (c.sum_bytes-2.ensures.0, c.sum_bytes.ensures.0) (checksum_parts a.count a.address.now a.bytes.now)
 
-pub check-byte-spec : {M : Type 1} → statement M
-check-byte-spec =
+pub check_byte_spec : {M : Type 1} → statement M
+check_byte_spec =
     tie.close
     (tie.spec
     (λ c κs. search rules)

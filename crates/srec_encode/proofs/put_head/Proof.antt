@@ -13,15 +13,15 @@ returns : tie.Need-returns
 returns c =
     let s = c.before.before.before.before.before in
     let a = s.args in
-    rw (c.before.before.put-pair.ensures, over_two a.out.now 0 83 a.kind (omega (arith, s.requires)))
+    rw (c.put_pair.ensures, over_two a.out.now 0 83 a.kind (omega (arith, s.requires)))
     (over_next a.out.now 0 (83 ∷ a.kind ∷ []) (digits_of (a.count ∷ [])) 2 refl (omega (arith, s.requires)))
 
-pub put-head-spec : {M : Type 1} → statement M
-put-head-spec =
+pub put_head_spec : {M : Type 1} → statement M
+put_head_spec =
     tie.close
     (tie.spec
     (λ c. search rules)
     (λ c. simp length-set (omega arith))
     (λ c κs. simp length-set (omega arith))
-    (λ c. simp length-set at c.before.before.put-pair.auto.0)
+    (λ c. simp length-set at c.put_pair.auto.out)
     returns)

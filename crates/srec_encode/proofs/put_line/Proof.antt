@@ -20,8 +20,8 @@ returns c =
           ∙ sym (length_line a.kind a.width a.address a.bytes.now))),
     )
 
-pub put-line-spec : {M : Type 1} → statement M
-put-line-spec =
+pub put_line_spec : {M : Type 1} → statement M
+put_line_spec =
     tie.close
     (tie.spec
     (λ c. search rules)

@@ -8,12 +8,12 @@ use Rattle.srec_encode.proofs.put_record.Tie as tie
 returns : tie.Need-returns
 unfolding line_of
 returns c =
-    let s = c.before.before.before.before.before.before.before.before.before in
+    let s = c.before.before.before.before.before.before.before.before in
     rw (address_field s.args.width s.args.address s.requires.0.0) at
-    (rw c.before.before.before.before.before.before.bytes_of.ensures at c.before.before.put-fields.ensures)
+    (rw c.bytes_of-all.ensures at c.put_fields.ensures)
 
-pub put-record-spec : {M : Type 1} → statement M
-put-record-spec =
+pub put_record_spec : {M : Type 1} → statement M
+put_record_spec =
     tie.close
     (tie.spec
     (λ c κs. search rules)

@@ -10,20 +10,20 @@ use Rattle.srec_encode.proofs.put_row.Statement.{statement}
 use Rattle.srec_encode.proofs.put_row.Tie as tie
 
 -- the call, from the record that was written
-abbrev call : tie.After-put-row-fields → tie.Start
-call c = c.before.before.before.before.before.before.before
+abbrev call : tie.After-put_row_fields → tie.Start
+call c = c.before.before.before.before.before.before
 
-put-row-fields-requires : tie.Need-put-row-fields-requires
+put-row-fields-requires : tie.Need-put_row_fields-requires
 put-row-fields-requires c κs = ((search rules, search rules, search rules), search rules)
 
 -- what the part holds that was lent
-part-written : (c : tie.After-put-row-fields) → let a = (call c).args in
-    c.put-row-fields.new.1.0 ≡ line_of a.kind a.width a.address a.bytes.now
+part-written : (c : tie.After-put_row_fields) → let a = (call c).args in
+    c.put_row_fields.new.out ≡ line_of a.kind a.width a.address a.bytes.now
 unfolding line_of
 part-written c =
     let s = call c in
-    rw (address_field s.args.width s.args.address s.pre.0.1) at
-    (rw c.before.before.before.before.bytes_of.ensures at c.put-row-fields.ensures)
+    rw (address_field s.args.width s.args.address s.requires.0.1) at
+    (rw c.bytes_of-all.ensures at c.put_row_fields.ensures)
 
 returns : tie.Need-returns
 returns c =
@@ -34,8 +34,8 @@ returns c =
           (lent_over a.at _ a.out.now _ (add-sub_cancel_left a.at _ ∙ sym (length_line a.kind a.width a.address a.bytes.now))),
     )
 
-pub put-row-spec : {M : Type 1} → statement M
-put-row-spec =
+pub put_row_spec : {M : Type 1} → statement M
+put_row_spec =
     tie.close
     (tie.spec
     (λ c κs. search rules)

@@ -13,7 +13,7 @@ returns : tie.Need-returns
 returns c =
     let s = c.before.before.before.before.before in
     let a = s.args in
-    rw c.before.before.put-pair.ensures (over_store a.out.now a.at (digits_of (a.check ∷ [])) 10 (a.at + 2) refl (omega (arith, s.requires)))
+    rw c.put_pair.ensures (over_store a.out.now a.at (digits_of (a.check ∷ [])) 10 (a.at + 2) refl (omega (arith, s.requires)))
 
-pub put-tail-spec : {M : Type 1} → statement M
-put-tail-spec = tie.close (tie.spec (λ c. search rules) (λ c κs. search rules) (λ c. search rules) (λ c. search rules) returns)
+pub put_tail_spec : {M : Type 1} → statement M
+put_tail_spec = tie.close (tie.spec (λ c. search rules) (λ c κs. search rules) (λ c. search rules) (λ c. search rules) returns)

@@ -7,7 +7,7 @@ use borrow.Author.Rules.{rules}
 use Rattle.srec_fields.proofs.data_end.Statement.{statement}
 use Rattle.srec_fields.proofs.data_end.Tie as tie
 
-returns-8 : tie.Need-returns-8
+returns-8 : tie.Need-returns
 returns-8 c z =
     let end = c.before in
     let sized = end.before.before in
@@ -18,12 +18,12 @@ returns-8 c z =
     let low = high.before in
     let letter = low.before.before in
     let first = letter.before.before in
-    let a = first.before.before.args in
-    data_seen a.text.now a.from _ _ (omega (arith, sized.if6.false)) letter.if2.false refl low.if3.false high.if4.false
-    (sym counted.byte_of.ensures) (omega (arith, width.data-width.ensures, wide.if5.false)) (sym end.is-end.ensures ∙ not-false _ c.if7.false)
+    let a = first.args in
+    data_seen a.text.now a.from _ _ (omega (arith, sized.if-left-size.false)) letter.if-text-from-ne83.false refl low.if-kind-lt49.false high.if-kind-gt51.false
+    (sym counted.byte_of-count.ensures) (omega (arith, width.data_width.ensures, wide.if-count-data_width.false)) (sym end.is_end.ensures ∙ c.if-not-is_end.false)
 
-pub data-end-spec : {M : Type 1} → statement M
-data-end-spec =
+pub data_end_spec : {M : Type 1} → statement M
+data_end_spec =
     tie.close
     (tie.spec
     (λ c. search rules)

@@ -9,34 +9,34 @@ use borrow.Author.Rules.{rules}
 use Rattle.srec_fields.proofs.fits.Statement.{statement}
 use Rattle.srec_fields.proofs.fits.Tie as tie
 
-returns : tie.Need-returns
+returns : tie.Need-returns-then-n-count
 returns c =
     let s = c.before in
     let t : Known s.args.kind s.args.width = known_type s.args.kind s.args.width (sym s.requires.0) (λ e. omega arith) in
-    sym (ap not (row_6_length s.args.kind s.args.width s.args.n s.args.count t c.if1.true))
+    sym (ap not (row_6_length s.args.kind s.args.width s.args.n s.args.count t c.if-n-count.true))
 
-returns-2 : tie.Need-returns-2
+returns-2 : tie.Need-returns-then-count-width
 returns-2 c =
     let s = c.before.before in
     let t : Known s.args.kind s.args.width = known_type s.args.kind s.args.width (sym s.requires.0) (λ e. omega arith) in
-    sym (ap not (row_6_low s.args.kind s.args.width s.args.n s.args.count t c.before.if1.false c.if2.true))
+    sym (ap not (row_6_low s.args.kind s.args.width s.args.n s.args.count t c.if-n-count.false c.if-count-width.true))
 
-returns-3 : tie.Need-returns-3
+returns-3 : tie.Need-returns-then-kind-le51
 returns-3 c =
     let at-if1 = c.before.before in
     let s = at-if1.before in
     let t : Known s.args.kind s.args.width = known_type s.args.kind s.args.width (sym s.requires.0) (λ e. omega arith) in
-    sym (ap not (row_6_data s.args.kind s.args.width s.args.n s.args.count t at-if1.if1.false c.before.if2.false
-    c.if3.true))
+    sym (ap not (row_6_data s.args.kind s.args.width s.args.n s.args.count t at-if1.if-n-count.false c.if-count-width.false
+    c.if-kind-le51.true))
 
-returns-4 : tie.Need-returns-4
+returns-4 : tie.Need-returns
 returns-4 c =
     let at-if1 = c.before.before in
     let s = at-if1.before in
     let t : Known s.args.kind s.args.width = known_type s.args.kind s.args.width (sym s.requires.0) (λ e. omega arith) in
-    sym (ap not (row_6_none s.args.kind s.args.width s.args.n s.args.count t at-if1.if1.false c.before.if2.false
-    c.if3.false) ∙ not-not (eqb s.args.count (s.args.width + 1)))
+    sym (ap not (row_6_none s.args.kind s.args.width s.args.n s.args.count t at-if1.if-n-count.false c.if-count-width.false
+    c.if-kind-le51.false) ∙ not-not (eqb s.args.count (s.args.width + 1)))
 
-pub fits-spec : {M : Type 1} → statement M
-fits-spec =
+pub fits_spec : {M : Type 1} → statement M
+fits_spec =
     tie.close (tie.spec (λ c. search rules) (λ c. search rules) returns (λ c. search rules) returns-2 returns-3 (λ c. search rules) returns-4)

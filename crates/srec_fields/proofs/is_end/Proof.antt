@@ -4,13 +4,13 @@ use Rattle.srec.specs.Lines.{is_end}
 use Rattle.srec_fields.proofs.is_end.Statement.{statement}
 use Rattle.srec_fields.proofs.is_end.Tie as tie
 
-returns : tie.Need-returns
+returns : tie.Need-returns-then-c-eq10
 unfolding is_end
-returns c = simp (eq-eqb _ _ c.if1.true)
+returns c = simp (eq-eqb _ _ c.if-c-eq10.true)
 
-returns-2 : tie.Need-returns-2
+returns-2 : tie.Need-returns-else-c-eq10
 unfolding is_end
-returns-2 c = simp (ne_eqb _ _ c.if1.false)
+returns-2 c = simp (ne_eqb _ _ c.if-c-eq10.false)
 
-pub is-end-spec : {M : Type 1} → statement M
-is-end-spec = tie.close (tie.spec returns returns-2)
+pub is_end_spec : {M : Type 1} → statement M
+is_end_spec = tie.close (tie.spec returns returns-2)

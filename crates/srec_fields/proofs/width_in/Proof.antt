@@ -6,20 +6,20 @@ use borrow.Author.Rules.{rules}
 use Rattle.srec_fields.proofs.width_in.Statement.{statement}
 use Rattle.srec_fields.proofs.width_in.Tie as tie
 
-returns : tie.Need-returns
+returns : tie.Need-returns-then-n-gt-MOST_CHARS
 returns c = (width_long _ (omega arith), omega arith)
 
-returns-2 : tie.Need-returns-2
+returns-2 : tie.Need-returns-then-n-lt-LEAST_CHARS
 returns-2 c = (width_short _ (omega arith) (omega arith), omega arith)
 
-returns-3 : tie.Need-returns-3
-returns-3 c = (width_letter _ (omega arith) (omega arith) c.if3.true, omega arith)
+returns-3 : tie.Need-returns-then-chars-ne83
+returns-3 c = (width_letter _ (omega arith) (omega arith) c.if-chars-ne83.true, omega arith)
 
-returns-4 : tie.Need-returns-4
-returns-4 c = (c.width_of_lem.ensures.0 ∙ width_type _ (omega arith) (omega arith) c.before.before.if3.false, c.width_of_lem.ensures.1)
+returns-4 : tie.Need-returns
+returns-4 c = (c.width_of.ensures.0 ∙ width_type _ (omega arith) (omega arith) c.if-chars-ne83.false, c.width_of.ensures.1)
 
-pub width-in-spec : {M : Type 1} → statement M
-width-in-spec =
+pub width_in_spec : {M : Type 1} → statement M
+width_in_spec =
     tie.close
     (tie.spec
     returns

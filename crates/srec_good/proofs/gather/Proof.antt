@@ -19,59 +19,59 @@ use Rattle.srec_good.proofs.gather.Tie as tie
 
 -- ---- by the table
 
-returns : tie.Need-returns
+returns : tie.Need-returns-then-chars-lt-BLOCK_END
 returns c =
     let s = c.before.before.before.before.before.before in
     let cs = s.args.chars.now in
-    let w : c.before.before.weigh.result ≡ weighed (drop 2 cs) = c.before.before.weigh.ensures.0 ∙ ap weighed (rest 2 cs) in
+    let w : c.weigh.result ≡ weighed (drop 2 cs) = c.weigh.ensures.0 ∙ ap weighed (rest 2 cs) in
     let even : length (drop 2 cs) % 2 ≡ 0 = omega (arith, length-drop 2 cs, s.requires.3, s.requires.5) in
-    (rw w (weight_tells (drop 2 cs) even), λ h. rw add-sub_cancel_left at c.number_of_lem.ensures)
+    (rw w (weight_tells (drop 2 cs) even), λ h. rw add-sub_cancel_left at c.number_of.ensures)
 
 -- ---- with the first block
 
 -- the call, past the test of the block
-abbrev call : tie.Else2 → tie.Start
+abbrev call : tie.Else-not-are_digits → tie.Start
 call c = c.before.before.before.before.before
 
-abbrev chars : tie.Else2 → List ℕ
+abbrev chars : tie.Else-not-are_digits → List ℕ
 chars c = (call c).args.chars.now
 
-digits-at : (c : tie.Else2) → AreDigits (take 32 (drop 4 (chars c)))
-digits-at c = c.before.are-digits.ensures (not-false _ c.if2.false)
+digits-at : (c : tie.Else-not-are_digits) → AreDigits (take 32 (drop 4 (chars c)))
+digits-at c = c.are_digits.ensures (c.if-not-are_digits.false)
 
-block-of-requires : tie.Need-block-of-requires
+block-of-requires : tie.Need-block_of-block-requires
 block-of-requires c κs =
     let e = c.before in
-    (length-take-le 32 (drop 4 (chars e)) (omega (arith, length-drop 4 (chars e), e.before.before.before.if1.false)), digits-at e)
+    (length-take-le 32 (drop 4 (chars e)) (omega (arith, length-drop 4 (chars e), e.if-chars-lt-BLOCK_END.false)), digits-at e)
 
-abbrev past : tie.After-block-of → tie.Else2
+abbrev past : tie.After-block_of-block → tie.Else-not-are_digits
 past c = c.before.before
 
 -- the block, as it stands after the type and the first pair
-block_at : (c : tie.After-block-of) → AreDigits (take 32 (drop 2 (drop 2 (chars (past c))))) × (c.Block-of.result ≡ bytes (take 32 (drop 2 (drop 2 (chars (past c))))))
-block_at c = rw (drop-drop 2 2 (chars (past c))) (digits-at (past c), c.Block-of.ensures)
+block_at : (c : tie.After-block_of-block) → AreDigits (take 32 (drop 2 (drop 2 (chars (past c))))) × (c.block_of-block.result ≡ bytes (take 32 (drop 2 (drop 2 (chars (past c))))))
+block_at c = rw (drop-drop 2 2 (chars (past c))) (digits-at (past c), c.block_of-block.ensures)
 
-sum-around-requires : tie.Need-sum-around-requires
+sum-around-requires : tie.Need-sum_around-sum-requires
 sum-around-requires c κs =
     let b = c.before.before.before in
     let s = call (past b) in
     let cs = chars (past b) in
     let n = length-drop 2 cs in
     rw (rest 2 cs)
-    ((s.pre.0, omega (arith, n, (past b).before.before.before.if1.false), omega (arith, n, s.pre.4), omega (arith, n, s.pre.3, s.pre.5)), block_at b)
+    ((s.requires.0, omega (arith, n, (past b).if-chars-lt-BLOCK_END.false), omega (arith, n, s.requires.4), omega (arith, n, s.requires.3, s.requires.5)), block_at b)
 
-returns-3 : tie.Need-returns-3
+returns-3 : tie.Need-returns
 returns-3 c =
     let first = c.before.before.before in
     let b = first.before in
     let s = call (past b) in
     let cs = chars (past b) in (
-      subst (Tells c.sum-around.result) (rest 2 cs) c.sum-around.ensures,
-      λ h. first.first-number.ensures ∙ address_first cs _ s.args.width (omega (arith, (past b).before.before.before.if1.false)) s.pre.2 b.Block-of.ensures,
+      subst (Tells c.sum_around-sum.result) (rest 2 cs) c.sum_around-sum.ensures,
+      λ h. first.first_number-address.ensures ∙ address_first cs _ s.args.width (omega (arith, (past b).if-chars-lt-BLOCK_END.false)) s.requires.2 b.block_of-block.ensures,
     )
 
-pub gather-spec : {M : Type 1} → statement M
-gather-spec =
+pub gather_spec : {M : Type 1} → statement M
+gather_spec =
     tie.close
     (tie.spec
     (λ c. search rules)

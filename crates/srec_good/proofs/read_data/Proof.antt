@@ -12,42 +12,42 @@ use Rattle.srec_good.proofs.read_data.Statement.{statement}
 use Rattle.srec_good.proofs.read_data.Tie as tie
 
 -- the call, where the width is known
-abbrev call : tie.After-data-width → tie.Start
+abbrev call : tie.After-data_width-width → tie.Start
 call c = c.before.before.before
 
-abbrev chars : tie.After-data-width → List ℕ
+abbrev chars : tie.After-data_width-width → List ℕ
 chars c = (call c).args.chars.now
 
-abbrev width : tie.After-data-width → ℕ
-width c = c.data-width.result
+abbrev width : tie.After-data_width-width → ℕ
+width c = c.data_width-width.result
 
-gather-requires : tie.Need-gather-requires
+gather-requires : tie.Need-gather-gathered-requires
 gather-requires c κs =
     let s = call c in
-    let b = bounds (chars c) (width c) s.pre.1 c.data-width.ensures in
-    (s.pre.0, b.0, b.1, omega (arith, b.2, b.3), b.4, omega (arith, b.3))
+    let b = bounds (chars c) (width c) s.requires.1 c.data_width-width.ensures in
+    (s.requires.0, b.0, b.1, omega (arith, b.2, b.3), b.4, omega (arith, b.3))
 
 -- the sum is right
-right-at : (c : tie.Else1) → let x = c.before.before.gather.result.sum in (x < 131072) × (x % 256 ≡ 255)
-right-at c = c.before.is_right.ensures (not-false _ c.if1.false)
+right-at : (c : tie.Else-not-is_right) → let x = c.gather-gathered.result.sum in (x < 131072) × (x % 256 ≡ 255)
+right-at c = c.is_right.ensures (c.if-not-is_right.false)
 
-sub-size : tie.Need-overflow-sub-size
+sub-size : tie.Need-overflow_sub-size
 sub-size c =
     let k = c.before.before.before in
-    let b = bounds (chars k) (width k) (call k).requires.1 k.data-width.ensures in
+    let b = bounds (chars k) (width k) (call k).requires.1 k.data_width-width.ensures in
     omega (arith, b.2, b.3)
 
-returns-2 : tie.Need-returns-2
+returns-2 : tie.Need-returns
 returns-2 c =
     let g = c.before.before in
     let k = g.before in
     let r = right-at c in
-    let told = g.gather.ensures.0 r.0 in
-    ap (λ (x : ℕ). Good (get_or (chars k) 1 0) x (length (chars k) / 2 - 2 - (width k + 1))) (g.gather.ensures.1 r.0)
-    ∙ data_good (chars k) (width k) (call k).requires.1 k.data-width.ensures told.0 (omega (arith, told.1, r.1))
+    let told = g.gather-gathered.ensures.0 r.0 in
+    ap (λ (x : ℕ). Good (get_or (chars k) 1 0) x (length (chars k) / 2 - 2 - (width k + 1))) (g.gather-gathered.ensures.1 r.0)
+    ∙ data_good (chars k) (width k) (call k).requires.1 k.data_width-width.ensures told.0 (omega (arith, told.1, r.1))
 
-pub read-data-spec : {M : Type 1} → statement M
-read-data-spec =
+pub read_data_spec : {M : Type 1} → statement M
+read_data_spec =
     tie.close
     (tie.spec
     (λ c. search rules)

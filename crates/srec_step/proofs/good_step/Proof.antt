@@ -11,30 +11,30 @@ use Rattle.srec_step.proofs.good_step.Statement.{statement}
 use Rattle.srec_step.proofs.good_step.Tie as tie
 
 -- the call, where the record was read
-abbrev call : tie.After-read-good → tie.Start
+abbrev call : tie.After-read_good-answer → tie.Start
 call c = c.before.before
 
 -- what a good record says
-got-at : (c : tie.After-answer) → Got (call c.before.before).args.chars.now c.answer.given.0.0 c.answer.given.0.1.0
-    c.answer.given.0.1.1.0
+got-at : (c : tie.In-Good) → Got (call c.before).args.chars.now c.in-Good.kind c.in-Good.address
+    c.in-Good.count
 got-at c =
-    let chars = (call c.before.before).args.chars.now in
-    got chars 0 _ _ _ (subst (λ (r : Record). GoodIs r (read chars)) c.answer.given.1 c.before.before.read-good.ensures)
+    let chars = (call c.before).args.chars.now in
+    got chars 0 _ _ _ (subst (λ (r : Record). GoodIs r (read chars)) c.in-Good.is c.read_good-answer.ensures)
 
-judge-requires : tie.Need-judge-requires
+judge-requires : tie.Need-judge-step-requires
 judge-requires c κs =
-    let s = call c.before.before.before in
-    judge_fits s.args.place s.args.state s.args.chars.now (got-at c.before) s.pre.1
+    let s = call c.before in
+    judge_fits s.args.place s.args.state s.args.chars.now (got-at c) s.requires.1
 
-returns-2 : tie.Need-returns-2
+returns-2 : tie.Need-returns
 returns-2 c =
-    let at-answer = c.before.before in
-    let a = (call at-answer.before.before).args in
+    let at-answer = c.before in
+    let a = (call at-answer.before).args in
     let l = good_line a.chars.now (got-at at-answer) in
-    (step_good a.place a.state a.chars.now (got-at at-answer) _ c.judge.ensures, l.0, l.1)
+    (step_good a.place a.state a.chars.now (got-at at-answer) _ c.judge-step.ensures, l.0, l.1)
 
-pub good-step-spec : {M : Type 1} → statement M
-good-step-spec =
+pub good_step_spec : {M : Type 1} → statement M
+good_step_spec =
     tie.close
     (tie.spec
     (λ c κs. search rules)

@@ -5,11 +5,11 @@ use Rattle.srec_step.specs.Refusals.{refusing}
 use Rattle.srec_step.proofs.unread.Statement.{statement}
 use Rattle.srec_step.proofs.unread.Tie as tie
 
-bad-returns : tie.Need-returns
-bad-returns c = sym (ap refusing c.before.answer.given.1)
+bad-returns : tie.Need-returns-in-Bad
+bad-returns c = sym (ap refusing c.in-Bad.is)
 
-good-returns : tie.Need-returns-2
-good-returns c = sym (ap refusing c.enum_told.given.1)
+good-returns : tie.Need-returns-in-Good
+good-returns c = sym (ap refusing c.in-Good.is)
 
-pub unread-spec : {M : Type 1} → statement M
-unread-spec = tie.close (tie.spec (λ c. search rules) (λ c. search rules) bad-returns good-returns)
+pub unread_spec : {M : Type 1} → statement M
+unread_spec = tie.close (tie.spec (λ c. search rules) (λ c. search rules) bad-returns good-returns)

@@ -11,24 +11,24 @@ use Rattle.srec_text.proofs.PieceLaws.{count_written, count_left_out}
 use Rattle.srec_text.proofs.put_count.Statement.{statement}
 use Rattle.srec_text.proofs.put_count.Tie as tie
 
-returns : tie.Need-returns
+returns : tie.Need-returns-then-records-gt-MOST_COUNTED
 returns c =
-    let a = c.before.before.args in
-    rw (count_left_out a.records c.if1.true) (sym (add-zero a.at), sym (over_none a.out.now a.at))
+    let a = c.args in
+    rw (count_left_out a.records c.if-records-gt-MOST_COUNTED.true) (sym (add-zero a.at), sym (over_none a.out.now a.at))
 
-put-line-requires : tie.Need-put-line-requires
+put-line-requires : tie.Need-put_line-requires
 put-line-requires c κs =
-    let n = c.before.before.before.before.args.records in
-    let e = ap length (count_written n c.before.before.if1.false) ∙ length_line 53 2 n [] in
-    ((omega arith, omega arith), omega (arith, e, c.before.before.before.before.requires))
+    let n = c.args.records in
+    let e = ap length (count_written n c.if-records-gt-MOST_COUNTED.false) ∙ length_line 53 2 n [] in
+    ((omega arith, omega arith), omega (arith, e, c.requires))
 
-returns-2 : tie.Need-returns-2
+returns-2 : tie.Need-returns
 returns-2 c =
-    let n = c.before.before.before.before.before.before.before.args.records in
-    rw (count_written n c.before.before.before.before.before.if1.false, length_line 53 2 n []) c.before.before.put-line.ensures
+    let n = c.args.records in
+    rw (count_written n c.if-records-gt-MOST_COUNTED.false, length_line 53 2 n []) c.put_line.ensures
 
-pub put-count-spec : {M : Type 1} → statement M
-put-count-spec =
+pub put_count_spec : {M : Type 1} → statement M
+put_count_spec =
     tie.close
     (tie.spec
     returns

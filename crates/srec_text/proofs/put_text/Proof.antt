@@ -42,105 +42,105 @@ module _ (s : tie.Start) where
   Left rest at out = Pending whole rest 0 at s.args.out.now out
 
   fits : 0 + length whole ≤ length s.args.out.now
-  fits = omega (arith, s.pre.1.1.1)
+  fits = omega (arith, s.requires.1.1.1)
 
   narrow : s.args.width ≤ 4
-  narrow = rw s.pre.1.1.0 (width_is (largest s.args.entry (shown window))).small
+  narrow = rw s.requires.1.1.0 (width_is (largest s.args.entry (shown window))).small
 
   at_start : Left (line_of 48 2 0 s.args.header.now ++ from-data) 0 s.args.out.now
   at_start =
       pending_start whole (line_of 48 2 0 s.args.header.now ++ from-data) 0 s.args.out.now
-      (text_pieces window s.args.header.now s.args.entry s.args.records s.args.width s.pre.1.0 s.pre.1.1.0)
+      (text_pieces window s.args.header.now s.args.entry s.args.records s.args.width s.requires.1.0 s.requires.1.1.0)
 
 -- the call, from behind each piece
-abbrev behind-header : tie.After-put-line → tie.Start
+abbrev behind-header : tie.After-put_line-behind_header → tie.Start
 behind-header c = c.before.before.before.before.before.before
 
-abbrev behind-data : tie.After-put-cells → tie.Start
+abbrev behind-data : tie.After-put_cells-behind_data → tie.Start
 behind-data c = behind-header c.before.before.before.before
 
-abbrev behind-count : tie.After-put-count → tie.Start
+abbrev behind-count : tie.After-put_count-behind_count → tie.Start
 behind-count c = behind-data c.before.before.before.before
 
-abbrev behind_last : tie.After-put-line2 → tie.Start
+abbrev behind_last : tie.After-put_line → tie.Start
 behind_last c = behind-count c.before.before.before.before.before
 
 -- each piece is written
-after-header : (c : tie.After-put-line) → Left (behind-header c) (from-data (behind-header c)) c.put-line.result c.put-line.new.0
+after-header : (c : tie.After-put_line-behind_header) → Left (behind-header c) (from-data (behind-header c)) c.put_line-behind_header.result c.put_line-behind_header.new.out
 after-header c =
     let s = behind-header c in
     line_more (whole s) 48 2 0 s.args.header.now (from-data s) 0 0 s.args.out.now s.args.out.now (fits s) (at_start s)
-    c.put-line.result c.put-line.new.0 c.put-line.ensures.0 c.put-line.ensures.1 c.put-line.auto.0
+    c.put_line-behind_header.result c.put_line-behind_header.new.out c.put_line-behind_header.ensures.0 c.put_line-behind_header.ensures.1 c.put_line-behind_header.auto.out
 
-after_data : (c : tie.After-put-cells) → Left (behind-data c) (from-count (behind-data c)) c.put-cells.result c.put-cells.new.1.0
+after_data : (c : tie.After-put_cells-behind_data) → Left (behind-data c) (from-count (behind-data c)) c.put_cells-behind_data.result c.put_cells-behind_data.new.out
 after_data c =
     let at-put-line = c.before.before.before.before in
     let s = behind-data c in
-    let p = at-put-line.put-line in
-    pending_more (whole s) (data_text Records s.args.width (shown (window s))) (from-count s) 0 p.result c.put-cells.result
-    s.args.out.now p.new.0 c.put-cells.new.1.0
-    (fits s) (after-header at-put-line) c.put-cells.ensures.0 c.put-cells.ensures.1 c.put-cells.auto.1.0
+    let p = at-put-line.put_line-behind_header in
+    pending_more (whole s) (data_text Records s.args.width (shown (window s))) (from-count s) 0 p.result c.put_cells-behind_data.result
+    s.args.out.now p.new.out c.put_cells-behind_data.new.out
+    (fits s) (after-header at-put-line) c.put_cells-behind_data.ensures.0 c.put_cells-behind_data.ensures.1 c.put_cells-behind_data.auto.out
 
-after-count : (c : tie.After-put-count) → Left (behind-count c) (last (behind-count c) ++ []) c.put_count.result c.put_count.new.0
+after-count : (c : tie.After-put_count-behind_count) → Left (behind-count c) (last (behind-count c) ++ []) c.put_count-behind_count.result c.put_count-behind_count.new.out
 after-count c =
     let at-put-cells = c.before.before.before.before in
     let s = behind-count c in
-    let p = at-put-cells.put-cells in
-    pending_more (whole s) (count_text s.args.records) (last s ++ []) 0 p.result c.put_count.result s.args.out.now
-    p.new.1.0 c.put_count.new.0
-    (fits s) (after_data at-put-cells) c.put_count.ensures.0 c.put_count.ensures.1 c.put_count.auto.0
+    let p = at-put-cells.put_cells-behind_data in
+    pending_more (whole s) (count_text s.args.records) (last s ++ []) 0 p.result c.put_count-behind_count.result s.args.out.now
+    p.new.out c.put_count-behind_count.new.out
+    (fits s) (after_data at-put-cells) c.put_count-behind_count.ensures.0 c.put_count-behind_count.ensures.1 c.put_count-behind_count.auto.out
 
-after_last : (c : tie.After-put-line2) → Left (behind_last c) [] c.put-line2.result c.put-line2.new.0
+after_last : (c : tie.After-put_line) → Left (behind_last c) [] c.put_line.result c.put_line.new.out
 after_last c =
     let at-put-count = c.before.before.before.before.before in
     let s = behind_last c in
-    let p = at-put-count.put_count in
-    line_more (whole s) (59 - s.args.width) s.args.width s.args.entry [] [] 0 p.result s.args.out.now p.new.0
+    let p = at-put-count.put_count-behind_count in
+    line_more (whole s) (59 - s.args.width) s.args.width s.args.entry [] [] 0 p.result s.args.out.now p.new.out
     (fits s) (after-count at-put-count)
-    c.put-line2.result c.put-line2.new.0 c.put-line2.ensures.0 c.put-line2.ensures.1 c.put-line2.auto.0
+    c.put_line.result c.put_line.new.out c.put_line.ensures.0 c.put_line.ensures.1 c.put_line.auto.out
 
-put-line-requires : tie.Need-put-line-requires
+put-line-requires : tie.Need-put_line-behind_header-requires
 put-line-requires c κs =
     let s = c.before.before.before.before.before in (
       (omega arith, omega (arith, s.requires.0)),
       line_room (whole s) 48 2 0 s.args.header.now (from-data s) 0 0 s.args.out.now s.args.out.now (fits s) (at_start s),
     )
 
-put-cells-requires : tie.Need-put-cells-requires
+put-cells-requires : tie.Need-put_cells-behind_data-requires
 put-cells-requires c κs =
     let at-put-line = c.before.before.before in
     let s = behind-header at-put-line in
-    let p = at-put-line.put-line in (
-      (narrow s, s.pre.0.0, s.pre.0.1),
-      pending_room (whole s) (data_text Records s.args.width (shown (window s))) (from-count s) 0 p.result s.args.out.now p.new.0
+    let p = at-put-line.put_line-behind_header in (
+      (narrow s, s.requires.0.0, s.requires.0.1),
+      pending_room (whole s) (data_text Records s.args.width (shown (window s))) (from-count s) 0 p.result s.args.out.now p.new.out
           (fits s) (after-header at-put-line),
     )
 
-put-count-requires : tie.Need-put-count-requires
+put-count-requires : tie.Need-put_count-behind_count-requires
 put-count-requires c κs =
     let at-put-cells = c.before.before.before in
     let s = behind-data at-put-cells in
-    let p = at-put-cells.put-cells in
-    pending_room (whole s) (count_text s.args.records) (last s ++ []) 0 p.result s.args.out.now p.new.1.0 (fits s)
+    let p = at-put-cells.put_cells-behind_data in
+    pending_room (whole s) (count_text s.args.records) (last s ++ []) 0 p.result s.args.out.now p.new.out (fits s)
     (after_data at-put-cells)
 
-sub-kind : tie.Need-overflow-sub-kind
+sub-kind : tie.Need-overflow_sub-kind
 sub-kind c =
     let s = behind-count c.before.before in
     omega (arith, narrow s)
 
-cast-kind : tie.Need-overflow-cast-kind
+cast-kind : tie.Need-overflow_cast-kind
 cast-kind c =
     let s = behind-count c.before.before in
     omega (arith, narrow s)
 
-put-line-requires-2 : tie.Need-put-line-requires-2
+put-line-requires-2 : tie.Need-put_line-requires
 put-line-requires-2 c κs =
     let at-put-count = c.before.before.before.before in
     let s = behind-count at-put-count in
-    let p = at-put-count.put_count in (
+    let p = at-put-count.put_count-behind_count in (
       (narrow s, omega (arith, narrow s)),
-      line_room (whole s) (59 - s.args.width) s.args.width s.args.entry [] [] 0 p.result s.args.out.now p.new.0
+      line_room (whole s) (59 - s.args.width) s.args.width s.args.entry [] [] 0 p.result s.args.out.now p.new.out
           (fits s) (after-count at-put-count),
     )
 
@@ -148,11 +148,11 @@ returns : tie.Need-returns
 returns c =
     let at-put-line2 = c.before.before in
     let s = behind_last at-put-line2 in
-    let p = at-put-line2.put-line2 in
-    (pending_end (whole s) 0 p.result s.args.out.now p.new.0 (after_last at-put-line2)).1
+    let p = at-put-line2.put_line in
+    (pending_end (whole s) 0 p.result s.args.out.now p.new.out (after_last at-put-line2)).1
 
-pub put-text-spec : {M : Type 1} → statement M
-put-text-spec =
+pub put_text_spec : {M : Type 1} → statement M
+put_text_spec =
     tie.close
     (tie.spec
     put-line-requires

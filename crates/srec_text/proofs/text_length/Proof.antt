@@ -13,31 +13,31 @@ use Rattle.srec_text.proofs.text_length.Tie as tie
 fits : (c : tie.Start) → c.args.size.records * (7 + 2 * c.args.width) ≤ 2 ^ 32 * 15
 fits c = records_fit c.args.size.records c.args.width c.requires.0 c.requires.3
 
-mul-least-2 : tie.Need-overflow-mul-least-2
+mul-least-2 : tie.Need-overflow_mul-least-2
 mul-least-2 c = omega (arith, fits c)
 
-add-least-2 : tie.Need-overflow-add-least-2
+add-least-2 : tie.Need-overflow_add-least-2
 add-least-2 c = omega (arith, fits c.before)
 
-add-least-3 : tie.Need-overflow-add-least-3
+add-least-3 : tie.Need-overflow_add-least-3
 add-least-3 c = omega (arith, fits c.before)
 
-add-least-4 : tie.Need-overflow-add-least-4
+add-least-4 : tie.Need-overflow_add-least-4
 add-least-4 c = omega (arith, fits c.before)
 
-add-result : tie.Need-overflow-add-result
+add-result : tie.Need-overflow_add-result
 add-result c = omega (arith, fits c.before.before)
 
-returns : tie.Need-returns
+returns : tie.Need-returns-then-records-le-MOST_COUNTED
 unfolding length_for
-returns c = rw (le-leb c.before.before.args.size.records 65535 c.if1.true)
+returns c = rw (le-leb c.args.size.records 65535 c.if-records-le-MOST_COUNTED.true)
 
-returns-2 : tie.Need-returns-2
+returns-2 : tie.Need-returns
 unfolding length_for
-returns-2 c = rw (lt-leb c.before.before.args.size.records 65535 c.if1.false, add-zero)
+returns-2 c = rw (lt-leb c.args.size.records 65535 c.if-records-le-MOST_COUNTED.false, add-zero)
 
-pub text-length-spec : {M : Type 1} → statement M
-text-length-spec =
+pub text_length_spec : {M : Type 1} → statement M
+text_length_spec =
     tie.close
     (tie.spec
     (λ c. search rules)

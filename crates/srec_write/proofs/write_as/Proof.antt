@@ -29,141 +29,141 @@ use Rattle.srec_write.proofs.write_as.Statement.{statement}
 use Rattle.srec_write.proofs.write_as.Tie as tie
 
 -- what a write is given, and the output before it
-abbrev start : tie.After-is-allowed → tie.Start
+abbrev start : tie.After-is_allowed → tie.Start
 start c = c.before.before.before.before.before
 
-abbrev form : tie.After-is-allowed → Form
+abbrev form : tie.After-is_allowed → Form
 form c = (start c).args.form
 
-abbrev lent : tie.After-is-allowed → Window
+abbrev lent : tie.After-is_allowed → Window
 lent c = let a = (start c).args in window_of a.base a.memory.now a.marks.now
 
-abbrev given : tie.After-is-allowed → Call
+abbrev given : tie.After-is_allowed → Call
 given c = let a = (start c).args in call_in a.form (lent c) a.header.now a.entry (length a.out.now)
 
-abbrev out : tie.After-is-allowed → List ℕ
+abbrev out : tie.After-is_allowed → List ℕ
 out c = (start c).args.out.now
 
 -- behind row 1, row 16, and where the entry is known
-abbrev behind-16 : tie.After-enum-told → tie.Else2
-behind-16 c = c.before.before.before
+abbrev behind-16 : tie.In_default → tie.Else-header-gt-MOST_HEADER
+behind-16 c = c.before.before
 
-abbrev with-entry : tie.After-text-length → tie.After-entry
-with-entry c = c.before.before.before.before
+abbrev with-entry : tie.After-text_length-need → tie.In-Present
+with-entry c = c.before.before.before
 
-abbrev asked : tie.After-enum-told → Call
+abbrev asked : tie.In_default → Call
 asked c = given (behind-16 c).before.before
 
 -- where the call is known
-abbrev at : tie.After-enum-told → tie.After-is-allowed
+abbrev at : tie.In_default → tie.After-is_allowed
 at c = (behind-16 c).before.before
 
-allowed : (c : tie.Else1) → row1_in (form c.before) (lent c.before) ≡ false
-allowed c = is_allowed (given c.before) c.before.is-allowed.ensures (not-false _ c.if1.false)
+allowed : (c : tie.Else-not-is_allowed) → row1_in (form c.before) (lent c.before) ≡ false
+allowed c = is_allowed (given c.before) c.is_allowed.ensures (c.if-not-is_allowed.false)
 
 -- the window is as long as row 1 asks for
-fits : (c : tie.Else1) → (length (lent c.before).marks ≡ mark_bytes (form c.before) (length (lent c.before).memory))
+fits : (c : tie.Else-not-is_allowed) → (length (lent c.before).marks ≡ mark_bytes (form c.before) (length (lent c.before).memory))
     × ((lent c.before).base + length (lent c.before).memory ≤ 2 ^ 32)
 fits c = allowed_in (form c.before) (lent c.before) (allowed c)
 
-none : (c : tie.After-enum-told) → row16_in (form (at c)) (length (lent (at c)).memory) (lent (at c)).marks ≡ false
-none c = no_bad (form (at c)) (length (lent (at c)).memory) (lent (at c)).marks (sym c.enum_told.given.1 ∙ c.before.before.first-bad.ensures)
+none : (c : tie.In_default) → row16_in (form (at c)) (length (lent (at c)).memory) (lent (at c)).marks ≡ false
+none c = no_bad (form (at c)) (length (lent (at c)).memory) (lent (at c)).marks (sym c.in_default.is ∙ c.first_bad-bad.ensures)
 
-returns : tie.Need-returns
+returns : tie.Need-returns-then-not-is_allowed
 returns c =
     let s = c.before.before in
-    declines srec (given s) (refusal 1 0 0) c.refused-write.result (out s)
-    (row_1 srec (given s) s.is-allowed.ensures (not-true _ c.before.if1.true)) c.refused-write.ensures
+    declines srec (given s) (refusal 1 0 0) c.refused_write.result (out s)
+    (row_1 srec (given s) s.is_allowed.ensures (c.if-not-is_allowed.true)) c.refused_write.ensures
 
-returns-2 : tie.Need-returns-2
+returns-2 : tie.Need-returns-then-header-gt-MOST_HEADER
 returns-2 c =
     let e = c.before.before in
     let s = e.before in
-    declines srec (given s) (refusal 15 0 0) c.refused-write2.result (out s) (row_15 (given s) (allowed e) c.before.if2.true) c.refused-write2.ensures
+    declines srec (given s) (refusal 15 0 0) c.refused_write-then-header-gt-MOST_HEADER.result (out s) (row_15 (given s) (allowed e) c.if-header-gt-MOST_HEADER.true) c.refused_write-then-header-gt-MOST_HEADER.ensures
 
-first-bad-requires : tie.Need-first-bad-requires
+first-bad-requires : tie.Need-first_bad-bad-requires
 first-bad-requires c κs = let f = fits c.before in (omega (arith, f.1), f.0)
 
-returns-3 : tie.Need-returns-3
+returns-3 : tie.Need-returns-in-At
 returns-3 c =
-    let at-bad = c.before.before in
-    let at_first = at-bad.before.before in
+    let at-bad = c.before in
+    let at_first = at-bad.before in
     let e = at_first.before in
     let s = e.before.before in
-    let place = at-bad.bad.given.0.0 in
-    let q = bad_at_lem (form s) (length (lent s).memory) (lent s).marks place (sym at-bad.bad.given.1 ∙ at_first.first-bad.ensures) in
-    declines srec (given s) (refusal 16 0 place) c.refused-write3.result (out s)
-    (row_16 (given s) (allowed e.before) e.if2.false place (q.0, ap (refusal 16 0) (sym q.1))) c.refused-write3.ensures
+    let place = at-bad.in-At.place in
+    let q = bad_at_lem (form s) (length (lent s).memory) (lent s).marks place (sym at-bad.in-At.is ∙ at_first.first_bad-bad.ensures) in
+    declines srec (given s) (refusal 16 0 place) c.refused_write-in-At.result (out s)
+    (row_16 (given s) (allowed e.before) e.if-header-gt-MOST_HEADER.false place (q.0, ap (refusal 16 0) (sym q.1))) c.refused_write-in-At.ensures
 
-returns-4 : tie.Need-returns-4
+returns-4 : tie.Need-returns-in_default-entry
 returns-4 c =
-    let at_told = c.before.before.before in
+    let at_told = c.before.before in
     let e = behind-16 at_told in
-    declines srec (asked at_told) (refusal 18 0 0) c.refused-write4.result (out e.before.before)
-    (row_18 (asked at_told) (allowed e.before) e.if2.left (none at_told) c.before.enum-told2.given.1) c.refused-write4.ensures
+    declines srec (asked at_told) (refusal 18 0 0) c.refused_write-in_default-entry.result (out e.before.before)
+    (row_18 (asked at_told) (allowed e.before) e.if-header-gt-MOST_HEADER.false (none at_told) c.in_default-entry.is) c.refused_write-in_default-entry.ensures
 
 -- the call and its entry, where an entry is there
-abbrev told : tie.After-entry → tie.After-enum-told
-told c = c.before.before
+abbrev told : tie.In-Present → tie.In_default
+told c = c.before
 
-abbrev entry : tie.After-entry → ℕ
-entry c = c.entry.given.0.0
+abbrev entry : tie.In-Present → ℕ
+entry c = c.in-Present.start
 
-size-of-requires : tie.Need-size-of-requires
-size-of-requires c κs = let f = fits (behind-16 (told c.before)).before in (f.1, f.0)
+size-of-requires : tie.Need-size_of-size-requires
+size-of-requires c κs = let f = fits (behind-16 (told c)).before in (f.1, f.0)
 
 -- the text's size and length are as measured
-sized : (c : tie.After-size-of) → c.type_size.result ≡ size_of Records (shown (asked (told c.before.before)).window) (entry c.before.before)
-sized c = c.type_size.ensures.0 (lent (at (told c.before.before))).memory refl
+sized : (c : tie.After-size_of-size) → c.size_of-size.result ≡ size_of Records (shown (asked (told c.before)).window) (entry c.before)
+sized c = c.size_of-size.ensures.0 (lent (at (told c.before))).memory refl
 
-text-length-requires : tie.Need-text-length-requires
+text-length-requires : tie.Need-text_length-need-requires
 text-length-requires c κs =
-    let n = c.before.type_size.ensures.1 in
-    let e = behind-16 (told c.before.before.before) in
+    let n = c.size_of-size.ensures.1 in
+    let e = behind-16 (told c.before.before) in
     let f = fits e.before in
-    (omega (arith, n, f), omega (arith, n, f), e.if2.left, rw c.width-for.ensures (width_is c.before.type_size.result.largest).small)
+    (omega (arith, n, f), omega (arith, n, f), e.if-header-gt-MOST_HEADER.false, rw c.width_for-width.ensures (width_is c.size_of-size.result.largest).small)
 
 -- the canonical text
-abbrev text : tie.After-entry → List ℕ
+abbrev text : tie.In-Present → List ℕ
 text c = let k = asked (told c) in text_of srec k.window k.header (Present (entry c))
 
-needed : (c : tie.After-text-length) → c.text-length.result ≡ length (text (with-entry c))
+needed : (c : tie.After-text_length-need) → c.text_length-need.result ≡ length (text (with-entry c))
 needed c =
     let at_size = c.before.before in
     let k = asked (told (with-entry c)) in
-    need_is k.window k.header (entry (with-entry c)) at_size.type_size.result c.before.width-for.result
-    c.text-length.result (sized at_size) c.before.width-for.ensures c.text-length.ensures
+    need_is k.window k.header (entry (with-entry c)) at_size.size_of-size.result c.width_for-width.result
+    c.text_length-need.result (sized at_size) c.width_for-width.ensures c.text_length-need.ensures
 
-returns-5 : tie.Need-returns-5
+returns-5 : tie.Need-returns-then-out-need
 returns-5 c =
     let at_length = c.before.before in
     let at_entry_lem = with-entry at_length in
     let e = behind-16 (told at_entry_lem) in
     let need = needed at_length in
-    declines srec (asked (told at_entry_lem)) (refusal 17 0 (length (text at_entry_lem))) c.refused-write5.result (out e.before.before)
-    (row_17 (asked (told at_entry_lem)) (allowed e.before) e.if2.left (none (told at_entry_lem)) (entry at_entry_lem) at_entry_lem.entry.given.1
-    (omega (arith, need, c.before.if3.true)))
-    (rw need at c.refused-write5.ensures)
+    declines srec (asked (told at_entry_lem)) (refusal 17 0 (length (text at_entry_lem))) c.refused_write-then-out-need.result (out e.before.before)
+    (row_17 (asked (told at_entry_lem)) (allowed e.before) e.if-header-gt-MOST_HEADER.false (none (told at_entry_lem)) (entry at_entry_lem) at_entry_lem.in-Present.is
+    (omega (arith, need, c.if-out-need.true)))
+    (rw need at c.refused_write-then-out-need.ensures)
 
-put-text-requires : tie.Need-put-text-requires
+put-text-requires : tie.Need-put_text-requires
 put-text-requires c κs =
     let at_length = c.before.before in
     let at_entry_lem = with-entry at_length in
     let e = behind-16 (told at_entry_lem) in
     let f = fits e.before in
     let size = sized at_length.before.before in (
-      (f.0, f.1, e.if2.left),
+      (f.0, f.1, e.if-header-gt-MOST_HEADER.false),
       (
         ap (λ (z : Size). z.records) size,
         (
-          at_length.before.width-for.ensures ∙ ap (λ (z : Size). width_for z.largest) size,
+          at_length.width_for-width.ensures ∙ ap (λ (z : Size). width_for z.largest) size,
           omega
-              (arith, needed at_length, c.before.if3.false),
+              (arith, needed at_length, c.if-out-need.false),
         ),
       ),
     )
 
-returns-6 : tie.Need-returns-6
+returns-6 : tie.Need-returns
 returns-6 c =
     let at_put = c.before.before.before in
     let at-if3 = at_put.before.before in
@@ -171,14 +171,14 @@ returns-6 c =
     let at_entry_lem = with-entry at_length in
     let e = behind-16 (told at_entry_lem) in
     let need = needed at_length in
-    accepts srec (asked (told at_entry_lem)) (text at_entry_lem) c.accepted-write.result (out e.before.before) at_put.put-text.new.0
-    at_length.text-length.result
-    (is_written (asked (told at_entry_lem)) (allowed e.before) e.if2.left (none (told at_entry_lem)) (entry at_entry_lem)
-    at_entry_lem.entry.given.1 (omega (arith, need, at-if3.if3.false)))
-    need c.accepted-write.ensures at_put.put-text.ensures
+    accepts srec (asked (told at_entry_lem)) (text at_entry_lem) c.accepted_write.result (out e.before.before) at_put.put_text.new.out
+    at_length.text_length-need.result
+    (is_written (asked (told at_entry_lem)) (allowed e.before) e.if-header-gt-MOST_HEADER.false (none (told at_entry_lem)) (entry at_entry_lem)
+    at_entry_lem.in-Present.is (omega (arith, need, at-if3.if-out-need.false)))
+    need c.accepted_write.ensures at_put.put_text.ensures
 
-pub write-as-spec : {M : Type 1} → statement M
-write-as-spec =
+pub write_as_spec : {M : Type 1} → statement M
+write_as_spec =
     tie.close
     (tie.spec
     (λ c κs. search rules)

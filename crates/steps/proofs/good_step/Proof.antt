@@ -4,19 +4,19 @@ use borrow.Author.Rules.{rules}
 use Rattle.steps.proofs.good_step.Statement.{statement}
 use Rattle.steps.proofs.good_step.Tie as tie
 
-returns : tie.Need-returns
+returns : tie.Need-returns-in-Records
 returns c =
-    let a = c.before.before.before.before.args in
-    sure_chosen a.format _ c.before.enum_told.given.1 a.state a.place a.chars.now c.good-step.result c.good-step.ensures
+    let a = c.args in
+    sure_chosen a.format _ c.in-Records.is a.state a.place a.chars.now c.good_step.result c.good_step.ensures
 
-returns-2 : tie.Need-returns-2
+returns-2 : tie.Need-returns-in-Tape
 returns-2 c =
-    let told = c.before.before in
-    let a = told.before.before.before.args in
-    sure_chosen a.format _ told.format.given.1 a.state a.place a.chars.now c.good-step2.result c.good-step2.ensures
+    let told = c.before in
+    let a = told.args in
+    sure_chosen a.format _ told.in-Tape.is a.state a.place a.chars.now c.good_step-in-Tape.result c.good_step-in-Tape.ensures
 
-pub good-step-spec : {M : Type 1} → statement M
-good-step-spec =
+pub good_step_spec : {M : Type 1} → statement M
+good_step_spec =
     tie.close
     (tie.spec
     (λ c. search rules)

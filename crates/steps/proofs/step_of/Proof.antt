@@ -4,19 +4,19 @@ use borrow.Author.Rules.{rules}
 use Rattle.steps.proofs.step_of.Statement.{statement}
 use Rattle.steps.proofs.step_of.Tie as tie
 
-returns : tie.Need-returns
+returns : tie.Need-returns-in-Records
 returns c =
-    let a = c.before.before.before.before.args in
-    step_chosen a.format _ c.before.enum_told.given.1 a.state a.place a.chars.now _ c.step_of_lem.ensures
+    let a = c.args in
+    step_chosen a.format _ c.in-Records.is a.state a.place a.chars.now _ c.step_of.ensures
 
-returns-2 : tie.Need-returns-2
+returns-2 : tie.Need-returns-in-Tape
 returns-2 c =
-    let told = c.before.before in
-    let a = told.before.before.before.args in
-    step_chosen a.format _ told.format.given.1 a.state a.place a.chars.now _ c.step-of2.ensures
+    let told = c.before in
+    let a = told.args in
+    step_chosen a.format _ told.in-Tape.is a.state a.place a.chars.now _ c.step_of-in-Tape.ensures
 
-pub step-of-spec : {M : Type 1} → statement M
-step-of-spec =
+pub step_of_spec : {M : Type 1} → statement M
+step_of_spec =
     tie.close
     (tie.spec
     (λ c. search rules)

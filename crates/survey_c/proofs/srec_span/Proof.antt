@@ -8,7 +8,7 @@ use Rattle.survey_c.proofs.srec_span.Tie as tie
 returns : tie.Need-returns
 returns c =
     let at-span = c.before in
-    rw (← at-span.before.format-for.ensures) (c.reach_of.ensures ∙ ap reach_of at-span.Span-of.ensures)
+    rw (← at-span.format_for-choice.ensures) (c.reach_of.ensures ∙ ap reach_of at-span.span_of-span.ensures)
 
-pub srec-span-spec : {M : Type 1} → statement M
-srec-span-spec = tie.close (tie.spec (λ c κs. search rules) (λ c κs. search rules) (λ c κs. search rules) returns)
+pub srec_span_spec : {M : Type 1} → statement M
+srec_span_spec = tie.close (tie.spec (λ c κs. search rules) (λ c κs. search rules) (λ c κs. search rules) returns)

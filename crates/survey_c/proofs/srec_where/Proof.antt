@@ -9,7 +9,7 @@ returns : tie.Need-returns
 unfolding source_of
 returns c =
     let at-origin = c.before in
-    rw (← at-origin.before.format-for.ensures) (ap source_of at-origin.origin-of.ensures)
+    rw (← at-origin.format_for-choice.ensures) (ap source_of at-origin.origin_of-origin.ensures)
 
-pub srec-where-spec : {M : Type 1} → statement M
-srec-where-spec = tie.close (tie.spec (λ c κs. search rules) (λ c κs. search rules) (λ c. search rules) returns)
+pub srec_where_spec : {M : Type 1} → statement M
+srec_where_spec = tie.close (tie.spec (λ c κs. search rules) (λ c κs. search rules) (λ c. search rules) returns)

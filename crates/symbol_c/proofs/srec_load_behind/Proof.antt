@@ -7,8 +7,8 @@ use Rattle.symbol_c.proofs.srec_load_behind.Tie as tie
 
 returns : tie.Need-returns
 returns c =
-    let l = c.before.before.before.before.before.load-behind.ensures in
-    (c.answer-of.ensures ∙ ap answer_of l.0, l.1)
+    let l = c.load_behind-loaded.ensures in
+    (c.answer_of.ensures ∙ ap answer_of l.0, l.1)
 
-pub srec-load-behind-spec : {M : Type 1} → statement M
-srec-load-behind-spec = tie.close (tie.spec (λ c κs. search rules) (λ c κs. search rules) (λ c. search rules) (λ c. search rules) returns)
+pub srec_load_behind_spec : {M : Type 1} → statement M
+srec_load_behind_spec = tie.close (tie.spec (λ c κs. search rules) (λ c κs. search rules) (λ c. search rules) (λ c. search rules) returns)

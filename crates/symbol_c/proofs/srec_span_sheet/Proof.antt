@@ -6,7 +6,7 @@ use Rattle.symbol_c.proofs.srec_span_sheet.Statement.{statement}
 use Rattle.symbol_c.proofs.srec_span_sheet.Tie as tie
 
 returns : tie.Need-returns
-returns c = c.reach_of.ensures ∙ ap reach_of c.before.sheet-span.ensures
+returns c = c.reach_of.ensures ∙ ap reach_of c.sheet_span-span.ensures
 
-pub srec-span-sheet-spec : {M : Type 1} → statement M
-srec-span-sheet-spec = tie.close (tie.spec (λ c κs. search rules) (λ c κs. search rules) returns)
+pub srec_span_sheet_spec : {M : Type 1} → statement M
+srec_span_sheet_spec = tie.close (tie.spec (λ c κs. search rules) (λ c κs. search rules) returns)

@@ -8,5 +8,5 @@ returns : tie.Need-returns
 unfolding is_last
 returns c = c.is_same.ensures
 
-pub is-last-spec : {M : Type 1} → statement M
-is-last-spec = tie.close (tie.spec (λ c. search rules) (λ c κs. search rules) returns)
+pub is_last_spec : {M : Type 1} → statement M
+is_last_spec = tie.close (tie.spec (λ c. search rules) (λ c κs. search rules) returns)

@@ -6,13 +6,13 @@ use borrow.Author.Rules.{rules}
 use Rattle.symbol_lines.proofs.is_pair.Statement.{statement}
 use Rattle.symbol_lines.proofs.is_pair.Tie as tie
 
-returns : tie.Need-returns
+returns : tie.Need-returns-then-not-is_name
 unfolding is_pair
-returns c = rw (sym c.before.is_name.ensures ∙ not-true _ c.if1.true)
+returns c = rw (sym c.is_name.ensures ∙ c.if-not-is_name.true)
 
-returns-2 : tie.Need-returns-2
+returns-2 : tie.Need-returns
 unfolding is_pair
-returns-2 c = let e = c.before in rw (sym e.before.is_name.ensures ∙ not-false _ e.if1.false) c.is_number.ensures
+returns-2 c = let e = c.before in rw (sym e.is_name.ensures ∙ e.if-not-is_name.false) c.is_number.ensures
 
-pub is-pair-spec : {M : Type 1} → statement M
-is-pair-spec = tie.close (tie.spec (λ c κs. search rules) returns (λ c κs. search rules) returns-2)
+pub is_pair_spec : {M : Type 1} → statement M
+is_pair_spec = tie.close (tie.spec (λ c κs. search rules) returns (λ c κs. search rules) returns-2)

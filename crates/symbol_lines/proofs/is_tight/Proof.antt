@@ -6,16 +6,16 @@ use borrow.Author.Rules.{rules}
 use Rattle.symbol_lines.proofs.is_tight.Statement.{statement}
 use Rattle.symbol_lines.proofs.is_tight.Tie as tie
 
-returns : tie.Need-returns
+returns : tie.Need-returns-then-is_blank
 unfolding tight
-returns c = rw (sym c.before.is-blank.ensures ∙ c.if1.true)
+returns c = rw (sym c.is_blank.ensures ∙ c.if-is_blank.true)
 
-returns-2 : tie.Need-returns-2
+returns-2 : tie.Need-returns
 unfolding tight
-returns-2 c = rw (sym c.before.before.before.is-blank.ensures ∙ c.before.before.if1.false) (ap not c.is-blank2.ensures)
+returns-2 c = rw (sym c.is_blank.ensures ∙ c.if-is_blank.false) (ap not c.is_blank-2.ensures)
 
-pub is-tight-spec : {M : Type 1} → statement M
-is-tight-spec =
+pub is_tight_spec : {M : Type 1} → statement M
+is_tight_spec =
     tie.close
     (tie.spec
     (λ c. search rules)

@@ -20,47 +20,45 @@ use Rattle.symbol_load.proofs.load_behind.Statement.{statement}
 use Rattle.symbol_load.proofs.load_behind.Tie as tie
 
 -- the call, its window, and what the block is
-abbrev start : tie.After-read-block → tie.Start
+abbrev start : tie.After-read_block-block → tie.Start
 start b = b.before.before.before.before
 
 abbrev window : tie.Start → Window
 window s = window_of s.args.base s.args.memory.now s.args.marks.now
 
-abbrev block : tie.After-known-told2 → tie.After-read-block
-block t = t.before.before.before
+abbrev block : tie.In-Table → tie.After-read_block-block
+block t = t.before
 
 -- the bare `$$` stands in the text
-ends : (t : tie.After-known-told2) → t.before.block2.given.0.1.0 + 2 ≤ length (start (block t)).args.text.now
-ends t = (subst (Inside (start (block t)).args.text.now) t.before.block2.given.1 (block t).read-block.ensures.1).1
+ends : (t : tie.In-Table) → t.in-Table.to + 2 ≤ length (start (block t)).args.text.now
+ends t = (subst (Inside (start (block t)).args.text.now) t.in-Table.is (block t).read_block-block.ensures.1).1
 
-returns : tie.Need-returns
+returns : tie.Need-returns-in-Bad
 returns c =
     let d = c.before.before in
-    let r = d.before.before.before in
+    let r = d.before.before in
     let t = r.before in
-    let b = t.before.before.before in
+    let b = t.before in
     let s = start b in
-    let g = t.before.block.given in
-    let f = refusal g.0.0 g.0.1.0 g.0.1.1.0 in
-    let is = behind_bad (window s) s.args.text.now _ _ _ (sym g.1 ∙ b.read-block.ensures.0) in (
-      d.decline.ensures.0 ∙ ap (λ (x : Refusal). load_answer (row1_or (window s) (refused x))) r.refuse.ensures ∙ ap load_answer is,
+    let f = refusal t.in-Bad.reason t.in-Bad.ordinal t.in-Bad.place in
+    let is = behind_bad (window s) s.args.text.now _ _ _ (sym t.in-Bad.is ∙ b.read_block-block.ensures.0) in (
+      d.decline.ensures.0 ∙ ap (λ (x : Refusal). load_answer (row1_or (window s) (refused x))) r.refuse-refusal.ensures ∙ ap load_answer is,
       (kept (window s) f s.args.memory.now ∙ ap (memory_after s.args.memory.now) is, d.decline.ensures.1 ∙ cleared (window s) f s.args.marks.now ∙ ap (marks_after s.args.marks.now) is),
     )
 
-returns-2 : tie.Need-returns-2
+returns-2 : tie.Need-returns-in-Table
 returns-2 c =
     let l = c.before.before.before.before in
     let t = l.before.before.before.before in
     let s = start (block t) in
     let a = s.args in
-    let g = t.before.block2.given in
     let e = l.load.ensures in
-    let is : load (window s) (plan srec (take (length a.text.now - (g.0.1.0 + 2)) (drop (g.0.1.0 + 2) a.text.now))) ≡ load_behind (window s) a.text.now
-    = ap (λ (x : List ℕ). load (window s) (plan srec x)) (rest (g.0.1.0 + 2) a.text.now) ∙ behind_table (window s) a.text.now _ _ (sym g.1 ∙ (block t).read-block.ensures.0) in
+    let is : load (window s) (plan srec (take (length a.text.now - (t.in-Table.to + 2)) (drop (t.in-Table.to + 2) a.text.now))) ≡ load_behind (window s) a.text.now
+    = ap (λ (x : List ℕ). load (window s) (plan srec x)) (rest (t.in-Table.to + 2) a.text.now) ∙ behind_table (window s) a.text.now _ _ (sym t.in-Table.is ∙ (block t).read_block-block.ensures.0) in
     (e.0 ∙ ap load_answer is, (e.1.0 ∙ ap (memory_after a.memory.now) is, e.1.1 ∙ ap (marks_after a.marks.now) is))
 
-pub load-behind-spec : {M : Type 1} → statement M
-load-behind-spec =
+pub load_behind_spec : {M : Type 1} → statement M
+load_behind_spec =
     tie.close
     (tie.spec
     (λ c κs. search rules)

@@ -12,93 +12,93 @@ use borrow.Author.Rules.{rules}
 use Rattle.symbol_table.proofs.find.Statement.{statement}
 use Rattle.symbol_table.proofs.find.Tie as tie
 
-abbrev invariant-loop : tie.invariant-loop
+abbrev invariant-loop : tie.invariant-loop-from
 invariant-loop table name at₀ at = (at ≤ length table) × (meaning_from table at name ≡ meaning (symbols_in table) name)
 
-abbrev decreases-loop : tie.decreases-loop
+abbrev decreases-loop : tie.decreases-loop-from
 decreases-loop table name at₀ at = length table - at
 
 -- the word at the loop's place
-key-at : (c : tie.After-known-told invariant-loop decreases-loop)
-    → Next is_blank c.before.before.before.before.before.before.before.args.table.now c.before.before.before.before.loop.at c.before.key.given.0.0 c.before.key.given.0.1.0
+key-at : (c : tie.In-At invariant-loop decreases-loop)
+    → Next is_blank c.args.table.now c.loop-from.at c.in-At.from c.in-At.to
 key-at c =
-    let l = c.before.before.before.before in
-    next_is is_blank l.before.before.before.args.table.now l.loop.at _ _ l.loop.invariant.0 (sym c.before.key.given.1 ∙ c.before.before.before.next_word.ensures)
+    let l = c.before.before in
+    next_is is_blank l.args.table.now l.loop-from.at _ _ l.loop-from.invariant.0 (sym c.in-At.is ∙ c.next_word-key.ensures)
 
 -- the word behind it
-other_at : (c : tie.After-known-told2 invariant-loop decreases-loop)
-    → Next is_blank c.before.before.before.before.before.before.before.before.before.before.before.args.table.now c.before.before.before.before.before.key.given.0.1.0
-    c.before.other.given.0.0 c.before.other.given.0.1.0
+other_at : (c : tie.In-At-other invariant-loop decreases-loop)
+    → Next is_blank c.args.table.now c.in-At.to
+    c.in-At-other.start c.in-At-other.end
 other_at c =
-    let k = key-at c.before.before.before.before in
-    let l = c.before.before.before.before.before.before.before.before in
-    next_is is_blank l.before.before.before.args.table.now c.before.before.before.before.before.key.given.0.1.0 _ _ k.high (sym c.before.other.given.1 ∙ c.before.before.before.next-word2.ensures)
+    let k = key-at c.before.before in
+    let l = c.before.before.before.before in
+    next_is is_blank l.args.table.now c.in-At.to _ _ k.high (sym c.in-At-other.is ∙ c.next_word-other.ensures)
 
-loop-holds : tie.Need-loop-init invariant-loop decreases-loop
+loop-holds : tie.Need-loop-from-init invariant-loop decreases-loop
 unfolding symbols_in
 loop-holds c = (omega arith, refl)
 
-returns : tie.Need-returns invariant-loop decreases-loop
+returns : tie.Need-returns-in_default invariant-loop decreases-loop
 returns c =
-    let l = c.before.before.before in
-    let a = l.before.before.before.args in
-    ap sought (sym (find_end a.table.now a.name.now l.loop.at
-    (next_none is_blank a.table.now l.loop.at (sym c.enum_told.given.1 ∙ c.before.before.next_word.ensures))) ∙ l.loop.invariant.1)
+    let l = c.before.before in
+    let a = l.args in
+    ap sought (sym (find_end a.table.now a.name.now l.loop-from.at
+    (next_none is_blank a.table.now l.loop-from.at (sym c.in_default.is ∙ c.next_word-key.ensures))) ∙ l.loop-from.invariant.1)
 
-next-word-requires-2 : tie.Need-next-word-requires-2 invariant-loop decreases-loop
+next-word-requires-2 : tie.Need-next_word-other-requires invariant-loop decreases-loop
 next-word-requires-2 c κs = omega (arith, (key-at c).high)
 
-returns-2 : tie.Need-returns-2 invariant-loop decreases-loop
+returns-2 : tie.Need-returns-in_default-other invariant-loop decreases-loop
 returns-2 c =
-    let k = c.before.before.before in
-    let l = k.before.before.before.before in
-    let a = l.before.before.before.args in
-    ap sought (sym (find_odd a.table.now a.name.now l.loop.at (key-at k)
-    (next_none is_blank a.table.now k.before.key.given.0.1.0 (sym c.enum-told2.given.1 ∙ c.before.before.next-word2.ensures))) ∙ l.loop.invariant.1)
+    let k = c.before.before in
+    let l = k.before.before in
+    let a = l.args in
+    ap sought (sym (find_odd a.table.now a.name.now l.loop-from.at (key-at k)
+    (next_none is_blank a.table.now k.in-At.to (sym c.in_default-other.is ∙ c.next_word-other.ensures))) ∙ l.loop-from.invariant.1)
 
-sub-is-same : tie.Need-overflow-sub-is-same invariant-loop decreases-loop
-sub-is-same c = omega (arith, (key-at c.before.before.before.before).some-chars)
+sub-is-same : tie.Need-slice_bounds-is_same-count invariant-loop decreases-loop
+sub-is-same c = omega (arith, (key-at c.before.before).some_chars)
 
-part-is-same-start : tie.Need-slice-bounds-is-same-start invariant-loop decreases-loop
-part-is-same-start c = let k = key-at c.before.before.before.before in omega (arith, k.some-chars, k.high)
+part-is-same-start : tie.Need-slice_bounds-is_same-start invariant-loop decreases-loop
+part-is-same-start c = let k = key-at c.before.before in omega (arith, k.some_chars, k.high)
 
-part-is-same-end : tie.Need-slice-bounds-is-same-end invariant-loop decreases-loop
-part-is-same-end c = omega (arith, (key-at c.before.before.before.before).high)
+part-is-same-end : tie.Need-slice_bounds-is_same-end invariant-loop decreases-loop
+part-is-same-end c = omega (arith, (key-at c.before.before).high)
 
-sub-number-word : tie.Need-overflow-sub-number-word invariant-loop decreases-loop
-sub-number-word c = omega (arith, (other_at c.before.before.before).some-chars)
+sub-number-word : tie.Need-slice_bounds-number_word-count invariant-loop decreases-loop
+sub-number-word c = omega (arith, (other_at c.before.before.before).some_chars)
 
-part-number-word-start : tie.Need-slice-bounds-number-word-start invariant-loop decreases-loop
-part-number-word-start c = let o = other_at c.before.before.before in omega (arith, o.some-chars, o.high)
+part-number-word-start : tie.Need-slice_bounds-number_word-start invariant-loop decreases-loop
+part-number-word-start c = let o = other_at c.before.before.before in omega (arith, o.some_chars, o.high)
 
-part-number-word-end : tie.Need-slice-bounds-number-word-end invariant-loop decreases-loop
+part-number-word-end : tie.Need-slice_bounds-number_word-end invariant-loop decreases-loop
 part-number-word-end c = omega (arith, (other_at c.before.before.before).high)
 
-number-word-requires : tie.Need-number-word-requires invariant-loop decreases-loop
+number-word-requires : tie.Need-number_word-requires invariant-loop decreases-loop
 number-word-requires c κs = word_long _ (other_at c.before.before.before.before)
 
-returns-3 : tie.Need-returns-3 invariant-loop decreases-loop
+returns-3 : tie.Need-returns-then-is_same invariant-loop decreases-loop
 returns-3 c =
     let o = c.before.before.before.before.before in
-    let k = o.before.before.before.before in
-    let l = k.before.before.before.before in
-    let a = l.before.before.before.args in
+    let k = o.before.before in
+    let l = k.before.before in
+    let a = l.args in
     rw c.number_word.ensures
-    (ap sought (sym (find_here a.table.now a.name.now l.loop.at (key-at k) (other_at o) (sym c.before.before.before.is_same.ensures ∙ c.before.before.if1.true)) ∙ l.loop.invariant.1))
+    (ap sought (sym (find_here a.table.now a.name.now l.loop-from.at (key-at k) (other_at o) (sym c.is_same.ensures ∙ c.if-is_same.true)) ∙ l.loop-from.invariant.1))
 
-loop-less : tie.Need-loop-smaller invariant-loop decreases-loop
+loop-less : tie.Need-loop-from-smaller invariant-loop decreases-loop
 loop-less c =
     let o = other_at c.before.before.before in
-    let k = key-at c.before.before.before.before.before.before.before in
-    omega (arith, k.low, k.some-chars, o.low, o.some-chars, o.high)
+    let k = key-at c.before.before.before.before.before in
+    omega (arith, k.low, k.some_chars, o.low, o.some_chars, o.high)
 
-loop-again : tie.Need-loop-preserved invariant-loop decreases-loop
+loop-again : tie.Need-loop-from-preserved invariant-loop decreases-loop
 loop-again c =
     let o = c.before.before.before in
-    let k = o.before.before.before.before in
-    let l = k.before.before.before.before in
-    let a = l.before.before.before.args in
-    ((other_at o).high, sym (find_on a.table.now a.name.now l.loop.at (key-at k) (other_at o) (sym c.before.is_same.ensures ∙ c.if1.false)) ∙ l.loop.invariant.1)
+    let k = o.before.before in
+    let l = k.before.before in
+    let a = l.args in
+    ((other_at o).high, sym (find_on a.table.now a.name.now l.loop-from.at (key-at k) (other_at o) (sym c.is_same.ensures ∙ c.if-is_same.false)) ∙ l.loop-from.invariant.1)
 
 pub find_spec : {M : Type 1} → statement M
 find_spec =

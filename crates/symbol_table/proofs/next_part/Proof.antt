@@ -15,28 +15,28 @@ use Rattle.symbol_table.proofs.next_part.Statement.{statement}
 use Rattle.symbol_table.proofs.next_part.Tie as tie
 
 -- how long the gap is
-gap_at : (c : tie.After-count) → c.count.result ≡ leading (holds c.before.before.before.args.gap) (drop c.before.before.before.args.at c.before.before.before.args.text.now)
+gap_at : (c : tie.After-count) → c.count.result ≡ leading (holds c.args.gap) (drop c.args.at c.args.text.now)
 unfolding counted
-gap_at c = let a = c.before.before.before.args in c.count.ensures.0 ∙ ap (counted a.gap) (rest a.at a.text.now)
+gap_at c = let a = c.args in c.count.ensures.0 ∙ ap (counted a.gap) (rest a.at a.text.now)
 
-returns : tie.Need-returns
+returns : tie.Need-returns-then-from-text
 returns c =
-    let a = c.before.before.before.before.args in
-    next_nothing (holds a.gap) a.text.now a.at (omega (arith, gap_at c.before, c.if1.true))
+    let a = c.args in
+    next_nothing (holds a.gap) a.text.now a.at (omega (arith, gap_at c.before, c.if-from-text.true))
 
-returns-2 : tie.Need-returns-2
+returns-2 : tie.Need-returns
 returns-2 c =
-    let a = c.before.before.before.before.before.before.args in
+    let a = c.args in
     let e = c.before.before.before in
     let i : ℕ = a.at + e.count.result in
-    let n : c.count2.result ≡ length (front (holds a.gap) (drop i a.text.now))
-    = c.count2.ensures.0 ∙ ap (counted a.class) (rest i a.text.now) ∙ class_front a.gap a.class c.before.before.before.before.before.before.requires.0 (drop i a.text.now) in
+    let n : c.count-2.result ≡ length (front (holds a.gap) (drop i a.text.now))
+    = c.count-2.ensures.0 ∙ ap (counted a.class) (rest i a.text.now) ∙ class_front a.gap a.class c.requires.0 (drop i a.text.now) in
     ap₂ At (ap (λ (k : ℕ). a.at + k) (gap_at e))
     (ap₂ ◌+◌ (ap (λ (k : ℕ). a.at + k) (gap_at e)) (n ∙ ap (λ (k : ℕ). length (front (holds a.gap) (drop (a.at + k) a.text.now))) (gap_at e)))
-    ∙ next_at (holds a.gap) a.text.now a.at (omega (arith, gap_at e, c.before.before.if1.false, e.count.ensures.1))
+    ∙ next_at (holds a.gap) a.text.now a.at (omega (arith, gap_at e, c.if-from-text.false, e.count.ensures.1))
 
-pub next-part-spec : {M : Type 1} → statement M
-next-part-spec =
+pub next_part_spec : {M : Type 1} → statement M
+next_part_spec =
     tie.close
     (tie.spec
     (λ c. search rules)

@@ -9,46 +9,46 @@ use Rattle.symbols.proofs.line_row.Statement.{statement}
 use Rattle.symbols.proofs.line_row.Tie as tie
 
 -- the call, and its line
-abbrev start : tie.Else1 → tie.Start
+abbrev start : tie.Else-not-pairs → tie.Start
 start e = e.before.before.before
 
 abbrev line : tie.Start → Line
 line s = line_at s.args.text.now s.args.place s.args.end
 
-returns : tie.Need-returns
+returns : tie.Need-returns-then-not-pairs
 returns c =
     let s = c.before.before.before in
     let a = s.args in
-    line_22 a.text.now a.begin a.seen (line s) a.pairs s.requires.5 (not-true _ c.if1.true)
+    line_22 a.text.now a.begin a.seen (line s) a.pairs s.requires.5 (not-true _ c.if-not-pairs.true)
 
-returns-2 : tie.Need-returns-2
+returns-2 : tie.Need-returns-then-repeats
 unfolding row23
 returns-2 c =
     let e = c.before.before.before in
     let s = start e in
     let a = s.args in
-    line_23 a.text.now a.begin a.seen (line s) a.pairs s.pre.5 (not-false _ e.if1.false) (sym c.before.repeats.ensures ∙ c.if2.true)
+    line_23 a.text.now a.begin a.seen (line s) a.pairs s.requires.5 (not-false _ e.if-not-pairs.false) (sym c.repeats.ensures ∙ c.if-repeats.true)
 
-returns-3 : tie.Need-returns-3
+returns-3 : tie.Need-returns-then-seen-pairs-gt-SYMBOLS
 unfolding row23
 returns-3 c =
     let t = c.before.before in
     let e = t.before.before.before in
     let s = start e in
     let a = s.args in
-    line_24 a.text.now a.begin a.seen (line s) a.pairs s.pre.5 (not-false _ e.if1.false) (sym t.before.repeats.ensures ∙ t.if2.false) c.if3.true
+    line_24 a.text.now a.begin a.seen (line s) a.pairs s.requires.5 (not-false _ e.if-not-pairs.false) (sym t.repeats.ensures ∙ t.if-repeats.false) c.if-seen-pairs-gt-SYMBOLS.true
 
-returns-4 : tie.Need-returns-4
+returns-4 : tie.Need-returns
 unfolding row23
 returns-4 c =
     let t = c.before.before in
     let e = t.before.before.before in
     let s = start e in
     let a = s.args in
-    line_none a.text.now a.begin a.seen (line s) a.pairs s.pre.5 (not-false _ e.if1.false) (sym t.before.repeats.ensures ∙ t.if2.false) c.if3.false
+    line_none a.text.now a.begin a.seen (line s) a.pairs s.requires.5 (not-false _ e.if-not-pairs.false) (sym t.repeats.ensures ∙ t.if-repeats.false) c.if-seen-pairs-gt-SYMBOLS.false
 
-pub line-row-spec : {M : Type 1} → statement M
-line-row-spec =
+pub line_row_spec : {M : Type 1} → statement M
+line_row_spec =
     tie.close
     (tie.spec
     returns

@@ -15,49 +15,49 @@ use Rattle.take_part.proofs.settle.Statement.{statement}
 use Rattle.take_part.proofs.settle.Tie as tie
 
 -- places: the call, before the match
-abbrev call : tie.After-slice-known → tie.Start
+abbrev call : tie.After-slice_known-1 → tie.Start
 call c = c.before.before
 
 -- where the characters behind the last line end begin
-abbrev own : tie.After-rest2 → tie.Start
-own c = call c.before.before
+abbrev own : tie.In-From → tie.Start
+own c = call c.before
 
-abbrev from : tie.After-rest2 → ℕ
-from c = c.rest2.given.0.0
+abbrev from : tie.In-From → ℕ
+from c = c.in-From.from
 
-known : (c : tie.After-rest2) → let part = (own c).args.part.now in
+known : (c : tie.In-From) → let part = (own c).args.part.now in
     (from c ≤ length part) × (front is_end (drop (from c) part) ≡ drop (from c) part)
-known c = rest_inside (own c).args.part.now (own c).args.rest (from c) _ c.rest2.given.1 (own c).requires.2
+known c = rest_inside (own c).args.part.now (own c).args.rest (from c) _ c.in-From.is (own c).requires.2
 
-inside : (c : tie.After-rest2) → from c ≤ length (own c).args.part.now
+inside : (c : tie.In-From) → from c ≤ length (own c).args.part.now
 inside c = (known c).0
 
 halt-requires : tie.Need-halt-requires
 halt-requires c κs =
-    let at_rest = c.before.before in
-    let s = call at_rest.before.before in
-    rest_reason s.args.part.now s.args.rest _ at_rest.rest.given.1 s.pre.2
+    let at_rest = c.before in
+    let s = call at_rest.before in
+    rest_reason s.args.part.now s.args.rest _ at_rest.in-Refused.is s.requires.2
 
-returns : tie.Need-returns
+returns : tie.Need-returns-in-Refused
 returns c =
     let at-halt = c.before.before in
-    let at_rest = at-halt.before.before.before in
-    let a = (call at_rest.before.before).args in
-    let t = settled_refused a.session.size a.session.total a.header a.part.now a.marks.now a.rest _ at_rest.rest.given.1 _ _
+    let at_rest = at-halt.before.before in
+    let a = (call at_rest.before).args in
+    let t = settled_refused a.session.size a.session.total a.header a.part.now a.marks.now a.rest _ at_rest.in-Refused.is _ _
     at-halt.halt.ensures.0 at-halt.halt.ensures.1.0 in
     (t.0, (t.1, at-halt.halt.ensures.1.1))
 
-add-next-record : tie.Need-overflow-add-next-record
-add-next-record c = let j = c.before.before in record { fits = omega (arith, inside j, (own j).requires.1) }
+add-next-record : tie.Need-overflow_add-session
+add-next-record c = let j = c.before in record { fits = omega (arith, inside j, (own j).requires.1) }
 
 -- the state where the next record begins
-abbrev begun : tie.After-next-record → tie.After-rest2
-begun c = c.before.before.before
+abbrev begun : tie.After-next_record-s → tie.In-From
+begun c = c.before.before
 
-sub-keep : tie.Need-overflow-sub-keep
+sub-keep : tie.Need-slice_bounds-keep-count
 sub-keep c = inside (begun c)
 
-part-keep-start : tie.Need-slice-bounds-keep-start
+part-keep-start : tie.Need-slice_bounds-keep-start
 part-keep-start c = inside (begun c)
 
 keep-requires : tie.Need-keep-requires
@@ -67,25 +67,25 @@ keep-requires c κs =
       omega (
         arith,
         inside j,
-        (own j).pre.1,
+        (own j).requires.1,
         part_long l (from j) (length l) (inside j) (omega arith),
-        ap (λ (g : Going). g.total) c.before.next-record.ensures.1,
+        ap (λ (g : Going). g.total) c.next_record-s.ensures.1,
       ),
       rw (rest (from j) l) (known j).1,
     )
 
-returns-2 : tie.Need-returns-2
+returns-2 : tie.Need-returns-in-From
 returns-2 c =
     let n = c.before.before in
     let j = begun n in
     let a = (own j).args in
-    let t = settled_from a.session.size a.session.total a.header a.part.now a.marks.now a.rest (from j) _ j.rest2.given.1
-    c.keep.result (ap (λ (f : Refusal). f.reason) (c.keep.ensures.0 ∙ n.next-record.ensures.0) ∙ (own j).pre.0)
-    (c.keep.ensures.1 ∙ ap (λ (g : Going). kept_all g (take (length a.part.now - from j) (drop (from j) a.part.now))) n.next-record.ensures.1) in
-    (t.0, (t.1, c.keep.ensures.2 ∙ n.next-record.ensures.2))
+    let t = settled_from a.session.size a.session.total a.header a.part.now a.marks.now a.rest (from j) _ j.in-From.is
+    c.keep.result (ap (λ (f : Refusal). f.reason) (c.keep.ensures.0 ∙ n.next_record-s.ensures.0) ∙ (own j).requires.0)
+    (c.keep.ensures.1 ∙ ap (λ (g : Going). kept_all g (take (length a.part.now - from j) (drop (from j) a.part.now))) n.next_record-s.ensures.1) in
+    (t.0, (t.1, c.keep.ensures.2 ∙ n.next_record-s.ensures.2))
 
-pub settle-spec : {M : Type 1} → statement M
-settle-spec =
+pub settle_spec : {M : Type 1} → statement M
+settle_spec =
     tie.close
     (tie.spec
     (λ c. search rules)

@@ -25,16 +25,16 @@ use Rattle.take_part.proofs.take_cut.Statement.{statement}
 use Rattle.take_part.proofs.take_cut.Tie as tie
 
 -- places: the call, where the table stands, and where the first line was closed
-abbrev start : tie.After-digit-table → tie.Start
+abbrev start : tie.After-digit_table-table → tie.Start
 start c = c.before.before.before.before
 
-abbrev given : tie.After-line → tie.After-digit-table
+abbrev given : tie.After-line-1 → tie.After-digit_table-table
 given c = c.before.before.before
 
-abbrev call : tie.After-close-line → tie.After-digit-table
-call c = given c.before.before.before.before.before.before.before
+abbrev call : tie.After-close_line-turn → tie.After-digit_table-table
+call c = given c.before.before.before.before.before.before
 
-abbrev closed : tie.After-slice-known4 → tie.After-close-line
+abbrev closed : tie.After-slice_known-4-1 → tie.After-close_line-turn
 closed c = c.before.before.before.before.before.before
 
 line-long : (c : tie.Start) → length c.args.session.line ≡ 516
@@ -60,155 +60,155 @@ reading s =
     }
 
 -- the first line was taken: the records with it, and what it left in header, memory and marks
-abbrev told : tie.After-turn2 → tie.After-close-line
-told c = closed c.before.before
+abbrev told : tie.In-Next → tie.After-close_line-turn
+told c = closed c.before
 
-abbrev tally : tie.After-turn2 → Tally
-tally c = c.turn2.given.0.0
+abbrev tally : tie.In-Next → Tally
+tally c = c.in-Next.next
 
-abbrev header : tie.After-turn2 → List ℕ
-header c = (told c).close-line.new.1.1.1.1.1.1.1.0
+abbrev header : tie.In-Next → List ℕ
+header c = (told c).close_line-turn.new.header
 
-abbrev memory : tie.After-turn2 → List ℕ
-memory c = (told c).close-line.new.1.1.1.1.1.1.1.1.0
+abbrev memory : tie.In-Next → List ℕ
+memory c = (told c).close_line-turn.new.memory
 
-abbrev marks : tie.After-turn2 → List ℕ
-marks c = (told c).close-line.new.1.1.1.1.1.1.1.1.1.1.0
+abbrev marks : tie.In-Next → List ℕ
+marks c = (told c).close_line-turn.new.marks
 
 -- the cells, and what marks say of them
-abbrev cells : tie.After-turn2 → ℕ
+abbrev cells : tie.In-Next → ℕ
 cells c = length (start (call (told c))).args.memory.now
 
-abbrev own : tie.After-turn2 → List ℕ → List ℕ
+abbrev own : tie.In-Next → List ℕ → List ℕ
 own c = flags (start (call (told c))).args.session.form (cells c)
 
-took : (c : tie.After-turn2) → let a = (start (call (told c))).args in
+took : (c : tie.In-Next) → let a = (start (call (told c))).args in
     line_turn a.base a.session.place (take 515 ((going_of a.session).held ++ take a.first a.part.now)) a.memory.now
     (own c a.marks.now) (known_of a.session.tally a.session.header) ≡ next (known_of (tally c) (header c)) (memory c) (own c (marks c))
-took c = took_next _ _ _ _ _ _ (told c).close-line.ensures.0 _ c.turn2.given.1
+took c = took_next _ _ _ _ _ _ (told c).close_line-turn.ensures.0 _ c.in-Next.is
 
 -- the marks are tidy, and memory as long as it was
-tidy : (c : tie.After-turn2) → Tidy (start (call (told c))).args.session.form (cells c) (marks c)
-tidy c = turn_tidy _ _ _ _ (told c).close-line.ensures.1 _ c.turn2.given.1
+tidy : (c : tie.In-Next) → Tidy (start (call (told c))).args.session.form (cells c) (marks c)
+tidy c = turn_tidy _ _ _ _ (told c).close_line-turn.ensures.1 _ c.in-Next.is
 
-memory_long : (c : tie.After-turn2) → length (memory c) ≡ cells c
-memory_long c = (told c).close-line.auto.1.1.1.1.1.1.1.1.0
+memory_long : (c : tie.In-Next) → length (memory c) ≡ cells c
+memory_long c = (told c).close_line-turn.auto.memory
 
-slice-aggregate-close-line : tie.Need-slice-aggregate-close-line
+slice-aggregate-close-line : tie.Need-slice_bounds-close_line-end
 slice-aggregate-close-line c = sym (line-long (start (given c.before.before)))
 
-slice-aggregate-close-line-2 : tie.Need-slice-aggregate-close-line-2
+slice-aggregate-close-line-2 : tie.Need-slice_bounds-close_line-end-2
 slice-aggregate-close-line-2 c =
-    let s = start (given c.before.before.before) in
-    sym (length-take-le _ s.args.part.now (omega (arith, s.pre.0.2)))
+    let s = start (given c.before.before) in
+    sym (length-take-le _ s.args.part.now (omega (arith, s.requires.0.2)))
 
-slice-aggregate-close-line-3 : tie.Need-slice-aggregate-close-line-3
-slice-aggregate-close-line-3 c = sym (header_long (start (given c.before.before.before.before)))
+slice-aggregate-close-line-3 : tie.Need-slice_bounds-close_line-end-3
+slice-aggregate-close-line-3 c = sym (header_long (start (given c.before.before.before)))
 
-close-line-requires : tie.Need-close-line-requires
+close-line-requires : tie.Need-close_line-turn-requires
 close-line-requires c κs =
-    let j = given c.before.before.before.before.before.before in
+    let j = given c.before.before.before.before.before in
     let s = start j in
     let p = reading s in
-    (j.digit-table.ensures, line-long s, s.pre.1.2, header_long s, few_now p.call, chars_free p _ s.pre.0.1 s.pre.0.2)
+    (j.digit_table-table.ensures, line-long s, s.requires.1.2, header_long s, few_now p.call, chars_free p _ s.requires.0.1 s.requires.0.2)
 
 halt-requires : tie.Need-halt-requires
 halt-requires c κs =
-    let at_turn = c.before.before in
-    let k = closed at_turn.before.before in
+    let at_turn = c.before in
+    let k = closed at_turn.before in
     let s = start (call k) in
-    first_reason (reading s) _ s.pre.0.1 s.pre.0.2 _ (took_refused _ _ _ _ _ _ k.close-line.ensures.0 _ at_turn.turn.given.1).0
+    first_reason (reading s) _ s.requires.0.1 s.requires.0.2 _ (took_refused _ _ _ _ _ _ k.close_line-turn.ensures.0 _ at_turn.in-Refused.is).0
 
-returns : tie.Need-returns
+returns : tie.Need-returns-in-Refused
 returns c =
     let at-halt = c.before.before in
-    let at_turn = at-halt.before.before.before in
-    let k = closed at_turn.before.before in
+    let at_turn = at-halt.before.before in
+    let k = closed at_turn.before in
     let s = start (call k) in
-    let y = took_refused _ _ _ _ _ _ k.close-line.ensures.0 _ at_turn.turn.given.1 in
+    let y = took_refused _ _ _ _ _ _ k.close_line-turn.ensures.0 _ at_turn.in-Refused.is in
     let a = s.args in
     let f = a.session.form in
     let n = length a.memory.now in
     with_form
-    (shows (ap (in_form f) (first_halts (reading s) _ s.pre.0.1 s.pre.0.2 _ y.0)) at-halt.halt.ensures.0 y.1
-    (at-halt.halt.ensures.1.0 ∙ ap (λ (k : ℕ). replicate k 0) k.close-line.kept.1.1.1.1.1.1.1.1.1.1.0
-    ∙ sym (clear_marks f n a.marks.now (tidy_length f n a.marks.now s.pre.1.2))))
+    (shows (ap (in_form f) (first_halts (reading s) _ s.requires.0.1 s.requires.0.2 _ y.0)) at-halt.halt.ensures.0 y.1
+    (at-halt.halt.ensures.1.0 ∙ ap (λ (k : ℕ). replicate k 0) k.close_line-turn.auto.marks
+    ∙ sym (clear_marks f n a.marks.now (tidy_length f n a.marks.now s.requires.1.2))))
     at-halt.halt.ensures.1.1
 
-add-take-lines : tie.Need-overflow-add-take-lines
+add-take-lines : tie.Need-overflow_add-first
 add-take-lines c =
-    let s = start (call (told c.before.before)) in
-    record { fits = omega (arith, s.pre.0.2, total_few (reading s)) }
+    let s = start (call (told c.before)) in
+    record { fits = omega (arith, s.requires.0.2, total_few (reading s)) }
 
-slice-aggregate-take-lines : tie.Need-slice-aggregate-take-lines
+slice-aggregate-take-lines : tie.Need-slice_bounds-take_lines-end
 slice-aggregate-take-lines c =
-    let k = told c.before.before.before in
-    sym (k.close-line.kept.1.1.1.1.1.1.1.0 ∙ header_long (start (call k)))
+    let k = told c.before.before in
+    sym (k.close_line-turn.auto.header ∙ header_long (start (call k)))
 
-take-lines-requires : tie.Need-take-lines-requires
+take-lines-requires : tie.Need-take_lines-rest-requires
 take-lines-requires c κs =
-    let j = c.before.before.before.before.before in
+    let j = c.before.before.before.before in
     let k = told j in
     let s = start (call k) in
     let p = reading s in (
-      (call k).digit-table.ensures,
-      omega (arith, s.pre.0.2),
+      (call k).digit_table-table.ensures,
+      omega (arith, s.requires.0.2),
       subst (λ (n : ℕ). Tidy s.args.session.form n (marks j)) (sym (memory_long j)) (tidy j),
-      k.close-line.kept.1.1.1.1.1.1.1.0 ∙ header_long s,
-      next_few p s.args.first s.pre.0.1 s.pre.0.2 (tally j) (header j) (memory j) (own j (marks j)) (took j),
+      k.close_line-turn.auto.header ∙ header_long s,
+      next_few p s.args.first s.requires.0.1 s.requires.0.2 (tally j) (header j) (memory j) (own j (marks j)) (took j),
     )
 
 -- the lines behind it were taken
-abbrev lines : tie.After-slice-known7 → tie.After-take-lines
+abbrev lines : tie.After-slice_known-in-Next-2-1 → tie.After-take_lines-rest
 lines c = c.before.before.before.before.before
 
-abbrev next_line : tie.After-take-lines → tie.After-turn2
-next_line c = c.before.before.before.before.before.before
+abbrev next_line : tie.After-take_lines-rest → tie.In-Next
+next_line c = c.before.before.before.before.before
 
 settle-requires : tie.Need-settle-requires
 settle-requires c κs =
     let k = lines c.before in
     let s = start (call (told (next_line k))) in
-    (s.pre.0.0, omega (arith, total_few (reading s)), k.take-lines.ensures.1)
+    (s.requires.0.0, omega (arith, total_few (reading s)), k.take_lines-rest.ensures.1)
 
-same-length-3 : tie.Need-same-length-3
+same-length-3 : tie.Need-shape_of-memory-in-Next
 same-length-3 c =
     let k = lines c.before.before.before.before in
-    k.take-lines.kept.1.1.1.1.1.1.1.0 ∙ (told (next_line k)).close-line.auto.1.1.1.1.1.1.1.1.0
+    k.take_lines-rest.auto.memory ∙ (told (next_line k)).close_line-turn.auto.memory
 
-same-length-4 : tie.Need-same-length-4
+same-length-4 : tie.Need-shape_of-marks-in-Next
 same-length-4 c =
     let at-settle = c.before.before in
     let k = lines at-settle.before.before in
-    at-settle.settle.auto.1.1.1.1.0 ∙ k.take-lines.kept.1.1.1.1.1.1.1.1.1.0
-    ∙ (told (next_line k)).close-line.auto.1.1.1.1.1.1.1.1.1.1.0
+    at-settle.settle.auto.marks ∙ k.take_lines-rest.auto.marks
+    ∙ (told (next_line k)).close_line-turn.auto.marks
 
-returns-2 : tie.Need-returns-2
+returns-2 : tie.Need-returns-in-Next
 returns-2 c =
     let at-settle = c.before.before in
     let k = lines at-settle.before.before in
     let j = next_line k in
     let s = start (call (told j)) in
-    let r = k.take-lines.result in
-    let h = k.take-lines.last.1.1.1.1.1.1.0 in
-    let m = k.take-lines.last.1.1.1.1.1.1.1.0 in
-    let x = k.take-lines.last.1.1.1.1.1.1.1.1.1.0 in
+    let r = k.take_lines-rest.result in
+    let h = k.take_lines-rest.new.header in
+    let m = k.take_lines-rest.new.memory in
+    let x = k.take_lines-rest.new.marks in
     let a = s.args in
     let f = a.session.form in
     let n = length a.memory.now in
-    let e = k.take-lines.ensures in
-    let long : length x ≡ mark_bytes f n = k.take-lines.kept.1.1.1.1.1.1.1.1.1.0 ∙ tidy_length f n (marks j) (tidy j) in
+    let e = k.take_lines-rest.ensures in
+    let long : length x ≡ mark_bytes f n = k.take_lines-rest.auto.marks ∙ tidy_length f n (marks j) (tidy j) in
     with_form
     (settled f n _ a.session.size a.session.total h a.part.now r m x
-    (first_goes (reading s) a.first s.pre.0.1 s.pre.0.2 (tally j) (header j) (memory j) (own j (marks j)) (took j) r h m (flags f n x)
+    (first_goes (reading s) a.first s.requires.0.1 s.requires.0.2 (tally j) (header j) (memory j) (own j (marks j)) (took j) r h m (flags f n x)
     (subst (λ (c : ℕ). fed a.base (stage (going (fresh (length (memory j)) (a.session.total + (a.first + 1)) (known_of (tally j) (header j)))) (memory j)
     (flags f c (marks j))) (drop (a.first + 1) a.part.now) ≡ behind (length (memory j)) a.session.total h a.part.now r m (flags f c x))
     (memory_long j) e.0)) long (subst (λ (c : ℕ). TidyRest f c r x) (memory_long j) e.2) _ _
     at-settle.settle.ensures.0 at-settle.settle.ensures.1.0)
     at-settle.settle.ensures.1.1
 
-pub take-cut-spec : {M : Type 1} → statement M
-take-cut-spec =
+pub take_cut_spec : {M : Type 1} → statement M
+take_cut_spec =
     tie.close
     (tie.spec
     (λ c κs. search rules)

@@ -17,10 +17,10 @@ use Rattle.tape_encode.proofs.put_line.Statement.{statement}
 use Rattle.tape_encode.proofs.put_line.Tie as tie
 
 -- where the check is known, and the call
-abbrev checked : tie.After-put-fields → tie.After-check-bytes
-checked c = c.before.before.before.before.before.before
+abbrev checked : tie.After-put_fields → tie.After-check_bytes-check
+checked c = c.before.before.before.before
 
-abbrev call : tie.After-put-fields → tie.Start
+abbrev call : tie.After-put_fields → tie.Start
 call c = (checked c).before.before.before.before
 
 -- the low two of four bytes
@@ -28,12 +28,12 @@ low : (l : List ℕ) (n : ℕ) → l ≡ in_bytes 4 n → take 2 (drop 2 l) ≡ 
 low l n e = ap (λ (x : List ℕ). take 2 (drop 2 x)) e ∙ address_field 2 n (omega arith)
 
 -- the part that comes back
-written : (c : tie.After-put-fields) → let a = (call c).args in c.put-fields.new.0 ≡ line a.edition a.address a.bytes.now []
+written : (c : tie.After-put_fields) → let a = (call c).args in c.put_fields.new.out ≡ line a.edition a.address a.bytes.now []
 written c =
     let a = (call c).args in
-    c.put-fields.ensures
-    ∙ ap₂ (λ (x y : List ℕ). line_with x a.bytes.now y) (low _ a.address (checked c).before.bytes_of.ensures)
-    (low _ (check_of a.edition (fields a.address a.bytes.now)) (checked c).check-bytes.ensures)
+    c.put_fields.ensures
+    ∙ ap₂ (λ (x y : List ℕ). line_with x a.bytes.now y) (low _ a.address (checked c).bytes_of-all.ensures)
+    (low _ (check_of a.edition (fields a.address a.bytes.now)) (checked c).check_bytes-check.ensures)
     ∙ line_with_lem a.edition a.address a.bytes.now
 
 returns : tie.Need-returns
@@ -46,8 +46,8 @@ returns c =
           (add-sub_cancel_left a.at _ ∙ sym (length_line a.edition a.address a.bytes.now))),
     )
 
-pub put-line-spec : {M : Type 1} → statement M
-put-line-spec =
+pub put_line_spec : {M : Type 1} → statement M
+put_line_spec =
     tie.close
     (tie.spec
     (λ c. search rules)

@@ -16,73 +16,73 @@ use Rattle.tape_read.proofs.read_checked.Statement.{statement}
 use Rattle.tape_read.proofs.read_checked.Tie as tie
 
 -- places: past rows 3 and 4, where the length field is known and where the sum is; the call's characters and its length field
-abbrev head : tie.After-byte-of → tie.Else3
+abbrev head : tie.After-byte_of-len → tie.Else-chars-ne59
 head c = c.before.before.before
 
-abbrev sized : tie.After-sum-digits → tie.Else4
+abbrev sized : tie.After-sum_digits-sum → tie.Else-n-len
 sized c = c.before.before
 
-abbrev summed : tie.After-byte-of3 → tie.Else5
+abbrev summed : tie.After-byte_of-low → tie.Else-sum-ge-NONE
 summed c = c.before.before.before.before.before.before.before.before
 
-abbrev chars : tie.Else3 → List ℕ
-chars c = c.before.before.before.before.before.args.chars.now
+abbrev chars : tie.Else-chars-ne59 → List ℕ
+chars c = c.args.chars.now
 
-abbrev own : tie.Else5 → List ℕ
+abbrev own : tie.Else-sum-ge-NONE → List ℕ
 own c = chars (head (sized c.before).before)
 
-abbrev len : tie.Else5 → ℕ
-len c = (sized c.before).before.byte_of.result
+abbrev len : tie.Else-sum-ge-NONE → ℕ
+len c = (sized c.before).byte_of-len.result
 
 -- what is known past rows 3 and 4, of the length field, of the sum, and past row 5
-head_at : (c : tie.Else3) → LineHead (chars c)
-head_at c = record { short = c.before.before.before.if1.false; three = omega (arith, c.before.before.if2.false); letter = c.if3.false }
+head_at : (c : tie.Else-chars-ne59) → LineHead (chars c)
+head_at c = record { short = c.if-n-gt-MOST_CHARS.false; three = omega (arith, c.if-n-lt-NO_DATA.false); letter = c.if-chars-ne59.false }
 
-length_is : (c : tie.Else5) → len c ≡ length_in (bs (own c))
-length_is c = let k = (sized c.before).before in k.byte_of.ensures ∙ length_at_lem (own c) (head_at (head k)).three
+length_is : (c : tie.Else-sum-ge-NONE) → len c ≡ length_in (bs (own c))
+length_is c = let k = (sized c.before).before in k.byte_of-len.ensures ∙ length_at_lem (own c) (head_at (head k)).three
 
-tells_at : (c : tie.Else5)
-    → (length (drop 1 (own c)) ≤ first_bad (drop 1 (own c))) × (c.before.sum-digits.result ≡ sum (bs (own c)))
+tells_at : (c : tie.Else-sum-ge-NONE)
+    → (length (drop 1 (own c)) ≤ first_bad (drop 1 (own c))) × (c.sum_digits-sum.result ≡ sum (bs (own c)))
 tells_at c =
-    let t : Tells c.before.sum-digits.result (drop 1 (own c))
-    = subst (Tells c.before.sum-digits.result) (rest 1 (own c)) c.before.sum-digits.ensures.0 in
-    t (omega (arith, c.if5.false))
+    let t : Tells c.sum_digits-sum.result (drop 1 (own c))
+    = subst (Tells c.sum_digits-sum.result) (rest 1 (own c)) c.sum_digits-sum.ensures.0 in
+    t (omega (arith, c.if-sum-ge-NONE.false))
 
-long-at : (c : tie.Else5) → length (own c) ≡ 11 + 2 * len c
-long-at c = (sized c.before).if4.false
+long-at : (c : tie.Else-sum-ge-NONE) → length (own c) ≡ 11 + 2 * len c
+long-at c = (sized c.before).if-n-len.false
 
 -- the sum has the two bytes of the check beside what it covers
-sum_at_lem : (c : tie.After-byte-of3) → let e = summed c in
-    e.before.sum-digits.result ≡ sum (covered (bs (own e))) + (high (own e) + low (own e))
+sum_at_lem : (c : tie.After-byte_of-low) → let e = summed c in
+    e.sum_digits-sum.result ≡ sum (covered (bs (own e))) + (high (own e) + low (own e))
 sum_at_lem c = let e = summed c in (tells_at e).1 ∙ sum_is (own e) (len e) (length_is e) (long-at e)
 
-high-at : (c : tie.After-byte-of3) → c.before.before.before.byte-of2.result ≡ high (own (summed c))
-high-at c = c.before.before.before.byte-of2.ensures
+high-at : (c : tie.After-byte_of-low) → c.byte_of-high.result ≡ high (own (summed c))
+high-at c = c.byte_of-high.ensures
 
-low-at : (c : tie.After-byte-of3) → c.byte-of3.result ≡ low (own (summed c))
-low-at c = c.byte-of3.ensures
+low-at : (c : tie.After-byte_of-low) → c.byte_of-low.result ≡ low (own (summed c))
+low-at c = c.byte_of-low.ensures
 
-sub-check-of : tie.Need-overflow-sub-check-of
+sub-check-of : tie.Need-overflow_sub-sum
 sub-check-of c = omega (arith, sum_at_lem c, high-at c, low-at c)
 
-returns-7 : tie.Need-returns-7
+returns-7 : tie.Need-returns
 returns-7 c =
     let at-check = c.before in
     let k = at-check.before in
     let e = summed k in
     let at-number = k.before.before.before.before.before.before in
-    let g : LineGot (own e) at-number.number_of_lem.result (len e)
+    let g : LineGot (own e) at-number.number_of-address.result (len e)
     = line_good (own e) (head_at (head (sized e.before).before)) (tells_at e).0 (len e) (length_is e) (long-at e)
-    at-number.number_of_lem.result (at-number.number_of_lem.ensures ∙ address_at (own e)) in
-    let s : e.before.sum-digits.result - (k.before.before.before.byte-of2.result + k.byte-of3.result) ≡ sum (covered (bs (own e)))
+    at-number.number_of-address.result (at-number.number_of-address.ensures ∙ address_at (own e)) in
+    let s : e.sum_digits-sum.result - (k.byte_of-high.result + k.byte_of-low.result) ≡ sum (covered (bs (own e)))
     = omega (arith, sum_at_lem k, high-at k, low-at k) in (
-      line_is (own e) at-number.number_of_lem.result (len e) 0 g,
+      line_is (own e) at-number.number_of-address.result (len e) 0 g,
       no_row_7 _ (own e) _ _ (omega (arith, high-at k, low-at k, check_is (own e) (len e) (length_is e) (long-at e)))
-          (check_given _ (own e) _ _ _ _ g s at-check.check-of.ensures) c.if6.false,
+          (check_given _ (own e) _ _ _ _ g s at-check.check_of.ensures) c.if-high-low.false,
     )
 
-pub read-checked-spec : {M : Type 1} → statement M
-read-checked-spec =
+pub read_checked_spec : {M : Type 1} → statement M
+read_checked_spec =
     tie.close
     (tie.spec
     (λ c. search rules)

@@ -17,10 +17,10 @@ inside : (base cells low : ℕ) → low ≡ low_cells base cells → low ≤ cel
 unfolding low_cells
 inside base cells low e = omega (arith, e)
 
-next-marked-requires : tie.Need-next-marked-requires
+next-marked-requires : tie.Need-next_marked-requires
 next-marked-requires c κs =
     let s = c.before.before in
-    (inside s.args.base s.args.cells c.low-cells.result c.low-cells.ensures, s.requires)
+    (inside s.args.base s.args.cells c.low_cells-low.result c.low_cells-low.ensures, s.requires)
 
 returns : tie.Need-returns
 returns c =
@@ -29,8 +29,8 @@ returns c =
     let a = s.args in
     let ms = flags a.form a.cells a.marks.now in
     let long : length ms ≡ a.cells = flags_length a.form a.cells a.marks.now s.requires in
-    let low = at_low.low-cells.ensures ∙ ap (low_cells a.base) (sym long) in
-    c.next-marked.ensures ∙ ap (λ (n : ℕ). n + unmarked (drop n ms)) low ∙ above_is a.base ms
+    let low = at_low.low_cells-low.ensures ∙ ap (low_cells a.base) (sym long) in
+    c.next_marked.ensures ∙ ap (λ (n : ℕ). n + unmarked (drop n ms)) low ∙ above_is a.base ms
 
-pub first-above-spec : {M : Type 1} → statement M
-first-above-spec = tie.close (tie.spec (λ c κs. search rules) next-marked-requires returns)
+pub first_above_spec : {M : Type 1} → statement M
+first_above_spec = tie.close (tie.spec (λ c κs. search rules) next-marked-requires returns)

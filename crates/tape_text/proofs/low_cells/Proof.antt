@@ -5,17 +5,17 @@ use borrow.Author.Rules.{rules}
 use Rattle.tape_text.proofs.low_cells.Statement.{statement}
 use Rattle.tape_text.proofs.low_cells.Tie as tie
 
-returns : tie.Need-returns
+returns : tie.Need-returns-then-low-ge-ADDRESSES
 unfolding low_cells
-returns c = omega (arith, c.if1.true)
+returns c = omega (arith, c.if-low-ge-ADDRESSES.true)
 
-returns-2 : tie.Need-returns-2
+returns-2 : tie.Need-returns-then-cells-most
 unfolding low_cells
-returns-2 c = omega (arith, c.if2.true, c.before.if1.false)
+returns-2 c = omega (arith, c.if-cells-most.true, c.if-low-ge-ADDRESSES.false)
 
-returns-3 : tie.Need-returns-3
+returns-3 : tie.Need-returns-else-cells-most
 unfolding low_cells
-returns-3 c = omega (arith, c.if2.false, c.before.if1.false)
+returns-3 c = omega (arith, c.if-cells-most.false, c.if-low-ge-ADDRESSES.false)
 
-pub low-cells-spec : {M : Type 1} → statement M
-low-cells-spec = tie.close (tie.spec returns (λ c. search rules) returns-2 returns-3)
+pub low_cells_spec : {M : Type 1} → statement M
+low_cells_spec = tie.close (tie.spec returns (λ c. search rules) returns-2 returns-3)

@@ -9,6 +9,6 @@ returns : tie.Need-returns
 unfolding length_for
 returns c = refl
 
-pub tape-length-spec : {M : Type 1} → statement M
-tape-length-spec =
+pub tape_length_spec : {M : Type 1} → statement M
+tape_length_spec =
     tie.close (tie.spec (λ c. search rules) (λ c. search rules) (λ c. search rules) (λ c. search rules) returns)

@@ -7,21 +7,21 @@ use borrow.Author.Rules.{rules}
 use Rattle.tape_write.proofs.has_extras.Statement.{statement}
 use Rattle.tape_write.proofs.has_extras.Tie as tie
 
-returns : tie.Need-returns
+returns : tie.Need-returns-then-header-gt0
 unfolding row19
-returns c = rw (lt-ltb 0 (length c.before.args.header.now) c.if1.true) refl
+returns c = rw (lt-ltb 0 (length c.args.header.now) c.if-header-gt0.true) refl
 
-returns-2 : tie.Need-returns-2
+returns-2 : tie.Need-returns-in-Absent
 unfolding row19
 returns-2 c =
-    let e = c.before.before in
-    rw (le-ltb 0 (length e.before.args.header.now) e.if1.false, c.enum_told.given.1) refl
+    let e = c.before in
+    rw (le-ltb 0 (length e.args.header.now) e.if-header-gt0.false, c.in-Absent.is) refl
 
-returns-3 : tie.Need-returns-3
+returns-3 : tie.Need-returns-in-Present
 unfolding row19
 returns-3 c =
-    let e = c.before.before in
-    rw (le-ltb 0 (length e.before.args.header.now) e.if1.false, c.enum-told2.given.1) refl
+    let e = c.before in
+    rw (le-ltb 0 (length e.args.header.now) e.if-header-gt0.false, c.in-Present.is) refl
 
-pub has-extras-spec : {M : Type 1} → statement M
-has-extras-spec = tie.close (tie.spec returns (λ c. search rules) (λ c. search rules) returns-2 returns-3)
+pub has_extras_spec : {M : Type 1} → statement M
+has_extras_spec = tie.close (tie.spec returns (λ c. search rules) (λ c. search rules) returns-2 returns-3)

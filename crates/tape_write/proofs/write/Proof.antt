@@ -11,7 +11,7 @@ use Rattle.tape_write.proofs.write.Tie as tie
 returns : tie.Need-returns
 returns c =
     let at-write = c.before.before in
-    let a = at-write.before.before.before.before.before.before.args in
+    let a = at-write.args in
     let same = write_bytes (tape a.edition) a.base a.memory.now a.marks.now a.header.now a.entry (length a.out.now) in
     (at-write.write_as.ensures.0 ∙ ap write_answer same, at-write.write_as.ensures.1 ∙ ap (output_after a.out.now) same)
 

@@ -10,12 +10,12 @@ returns : tie.Need-returns
 returns c =
     let at_load = c.before.before.before.before.before in
     let at-format = at_load.before.before.before in
-    let a = at-format.before.before.before.before.args in
-    let l = in_bytes a.base a.memory.now a.marks.now _ _ _ _ at_load.load-as.ensures in
-    rw (c.answer-of.ensures, ← at-format.format-for.ensures) (ap answer_of l.0, l.1)
+    let a = at-format.args in
+    let l = in_bytes a.base a.memory.now a.marks.now _ _ _ _ at_load.load_as-loaded.ensures in
+    rw (c.answer_of.ensures, ← at-format.format_for-choice.ensures) (ap answer_of l.0, l.1)
 
-pub srec-load-as-spec : {M : Type 1} → statement M
-srec-load-as-spec =
+pub srec_load_as_spec : {M : Type 1} → statement M
+srec_load_as_spec =
     tie.close
     (tie.spec
     (λ c κs. search rules)

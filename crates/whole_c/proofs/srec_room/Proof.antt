@@ -8,8 +8,8 @@ use Rattle.whole_c.proofs.srec_room.Tie as tie
 returns : tie.Need-returns
 returns c =
     let at_entry_lem = c.before.before in
-    rw (c.result-of.ensures, ← at_entry_lem.before.format-for.ensures, ← at_entry_lem.entry-for.ensures) (ap result_of c.before.room.ensures)
+    rw (c.result_of.ensures, ← at_entry_lem.format_for-choice.ensures, ← at_entry_lem.entry_for-start.ensures) (ap result_of c.room-written.ensures)
 
-pub srec-room-spec : {M : Type 1} → statement M
-srec-room-spec =
+pub srec_room_spec : {M : Type 1} → statement M
+srec_room_spec =
     tie.close (tie.spec (λ c κs. search rules) (λ c κs. search rules) (λ c κs. search rules) (λ c κs. search rules) returns)

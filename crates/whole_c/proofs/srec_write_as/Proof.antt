@@ -10,11 +10,11 @@ returns c =
     let at-write = c.before.before.before in
     let at_entry_lem = at-write.before.before in
     let at-format = at_entry_lem.before in
-    let w = at-write.write.ensures in
-    rw (c.result-of.ensures, ← at-format.format-for.ensures, ← at_entry_lem.entry-for.ensures) (ap result_of w.0, w.1)
+    let w = at-write.write-written.ensures in
+    rw (c.result_of.ensures, ← at-format.format_for-choice.ensures, ← at_entry_lem.entry_for-start.ensures) (ap result_of w.0, w.1)
 
-pub srec-write-as-spec : {M : Type 1} → statement M
-srec-write-as-spec =
+pub srec_write_as_spec : {M : Type 1} → statement M
+srec_write_as_spec =
     tie.close
     (tie.spec
     (λ c κs. search rules)

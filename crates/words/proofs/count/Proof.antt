@@ -11,33 +11,33 @@ use borrow.Author.Rules.{rules}
 use Rattle.words.proofs.count.Statement.{statement}
 use Rattle.words.proofs.count.Tie as tie
 
-abbrev invariant-loop : tie.invariant-loop
+abbrev invariant-loop : tie.invariant-loop-i
 invariant-loop class chars i₀ i = (i ≤ length chars) × (counted class chars ≡ i + counted class (drop i chars))
 
-abbrev decreases-loop : tie.decreases-loop
+abbrev decreases-loop : tie.decreases-loop-i
 decreases-loop class chars i₀ i = length chars - i
 
-loop-holds : tie.Need-loop-init invariant-loop decreases-loop
+loop-holds : tie.Need-loop-i-init invariant-loop decreases-loop
 loop-holds c = (omega arith, sym (zero-add _))
 
-returns : tie.Need-returns invariant-loop decreases-loop
+returns : tie.Need-returns-then-not-is_in invariant-loop decreases-loop
 returns c =
     let l = c.before.before.before.before in
-    let a = l.before.before.args in
-    let e = count_stop a.class a.chars.now l.loop.i (search rules) (sym c.before.is-in.ensures ∙ not-true _ c.if1.true) in
-    (omega (arith, l.loop.invariant.1, e), omega arith)
+    let a = l.args in
+    let e = count_stop a.class a.chars.now l.loop-i.i (search rules) (sym c.is_in.ensures ∙ c.if-not-is_in.true) in
+    (omega (arith, l.loop-i.invariant.1, e), omega arith)
 
-loop-again : tie.Need-loop-preserved invariant-loop decreases-loop
+loop-again : tie.Need-loop-i-preserved invariant-loop decreases-loop
 loop-again c =
     let l = c.before.before.before.before in
-    let a = l.before.before.args in
-    let e = count_more a.class a.chars.now l.loop.i (search rules) (sym c.before.is-in.ensures ∙ not-false _ c.if1.false) in
-    (omega arith, omega (arith, l.loop.invariant.1, e))
+    let a = l.args in
+    let e = count_more a.class a.chars.now l.loop-i.i (search rules) (sym c.is_in.ensures ∙ c.if-not-is_in.false) in
+    (omega arith, omega (arith, l.loop-i.invariant.1, e))
 
-returns-2 : tie.Need-returns-2 invariant-loop decreases-loop
+returns-2 : tie.Need-returns invariant-loop decreases-loop
 returns-2 c =
-    let a = c.before.before.before.args in
-    let l = c.before.loop in
+    let a = c.args in
+    let l = c.loop-i in
     (omega (arith, l.invariant.1, count_none a.class a.chars.now l.i (search rules)), omega arith)
 
 pub count_spec : {M : Type 1} → statement M

@@ -6,26 +6,26 @@ use borrow.Author.Rules.{rules}
 use Rattle.words.proofs.is_in.Statement.{statement}
 use Rattle.words.proofs.is_in.Tie as tie
 
-returns : tie.Need-returns
-returns c = rw c.before.enum_told.given.1 c.is-alnum.ensures
+returns : tie.Need-returns-in-Alnum
+returns c = rw c.in-Alnum.is c.is_alnum.ensures
 
-returns-2 : tie.Need-returns-2
-returns-2 c = rw (c.before.enum-told2.given.1, c.digit-of.ensures) (entry_digit _)
+returns-2 : tie.Need-returns-in-Hex
+returns-2 c = rw (c.in-Hex.is, c.digit_of.ensures) (entry_digit _)
 
-returns-3 : tie.Need-returns-3
-returns-3 c = rw c.before.enum-told3.given.1 c.is-blank.ensures
+returns-3 : tie.Need-returns-in-Blank
+returns-3 c = rw c.in-Blank.is c.is_blank.ensures
 
-returns-4 : tie.Need-returns-4
-returns-4 c = rw c.before.enum-told4.given.1 (ap not c.is-blank2.ensures)
+returns-4 : tie.Need-returns-in-NonBlank
+returns-4 c = rw c.in-NonBlank.is (ap not c.is_blank-in-NonBlank.ensures)
 
-returns-5 : tie.Need-returns-5
-returns-5 c = rw c.before.enum-told5.given.1 c.is-break.ensures
+returns-5 : tie.Need-returns-in-Break
+returns-5 c = rw c.in-Break.is c.is_break.ensures
 
-returns-6 : tie.Need-returns-6
-returns-6 c = rw c.before.enum-told6.given.1 (ap not c.is-break2.ensures)
+returns-6 : tie.Need-returns-in-NonBreak
+returns-6 c = rw c.in-NonBreak.is (ap not c.is_break-in-NonBreak.ensures)
 
-pub is-in-spec : {M : Type 1} → statement M
-is-in-spec =
+pub is_in_spec : {M : Type 1} → statement M
+is_in_spec =
     tie.close
     (tie.spec
     (λ c. search rules)

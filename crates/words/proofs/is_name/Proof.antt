@@ -6,28 +6,28 @@ use borrow.Author.Rules.{rules}
 use Rattle.words.proofs.is_name.Statement.{statement}
 use Rattle.words.proofs.is_name.Tie as tie
 
-returns : tie.Need-returns
+returns : tie.Need-returns-then-word-eq0
 unfolding is_name all_of
-returns c = rw (eq-eqb _ _ c.if1.true)
+returns c = rw (eq-eqb _ _ c.if-word-eq0.true)
 
-returns-2 : tie.Need-returns-2
+returns-2 : tie.Need-returns-then-word-gt-NAME
 unfolding is_name all_of
-returns-2 c = rw (ne_eqb _ _ c.before.if1.false, lt-ltb _ _ c.if2.true)
+returns-2 c = rw (ne_eqb _ _ c.if-word-eq0.false, lt-ltb _ _ c.if-word-gt-NAME.true)
 
-returns-3 : tie.Need-returns-3
+returns-3 : tie.Need-returns-then-not-is_letter
 unfolding is_name all_of
 returns-3 c =
     let e = c.before.before.before in
-    rw (ne_eqb _ _ e.before.if1.false, le-ltb _ _ e.if2.false, sym c.before.is-letter.ensures ∙ not-true _ c.if3.true)
+    rw (ne_eqb _ _ e.if-word-eq0.false, le-ltb _ _ e.if-word-gt-NAME.false, sym c.is_letter.ensures ∙ c.if-not-is_letter.true)
 
-returns-4 : tie.Need-returns-4
+returns-4 : tie.Need-returns
 unfolding is_name all_of
 returns-4 c =
     let e = c.before.before.before.before in
-    rw (ne_eqb _ _ e.before.if1.false, le-ltb _ _ e.if2.false, sym c.before.before.is-letter.ensures ∙ not-false _ c.before.if3.false, c.count.ensures.0)
+    rw (ne_eqb _ _ e.if-word-eq0.false, le-ltb _ _ e.if-word-gt-NAME.false, sym c.is_letter.ensures ∙ c.if-not-is_letter.false, c.count.ensures.0)
 
-pub is-name-spec : {M : Type 1} → statement M
-is-name-spec =
+pub is_name_spec : {M : Type 1} → statement M
+is_name_spec =
     tie.close
     (tie.spec
     returns

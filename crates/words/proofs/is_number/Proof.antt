@@ -7,30 +7,30 @@ use borrow.Author.Rules.{rules}
 use Rattle.words.proofs.is_number.Statement.{statement}
 use Rattle.words.proofs.is_number.Tie as tie
 
-returns : tie.Need-returns
+returns : tie.Need-returns-then-word-lt2
 unfolding is_number all_of
-returns c = rw (lt-ltb _ _ c.if1.true)
+returns c = rw (lt-ltb _ _ c.if-word-lt2.true)
 
-returns-2 : tie.Need-returns-2
+returns-2 : tie.Need-returns-then-word-gt-NUMBER
 unfolding is_number all_of
-returns-2 c = rw (le-ltb _ _ c.before.if1.false, lt-ltb _ _ c.if2.true)
+returns-2 c = rw (le-ltb _ _ c.if-word-lt2.false, lt-ltb _ _ c.if-word-gt-NUMBER.true)
 
-returns-3 : tie.Need-returns-3
+returns-3 : tie.Need-returns-then-word-ne36
 unfolding is_number all_of
 returns-3 c =
     let e = c.before.before in
-    rw (le-ltb _ _ e.before.if1.false, le-ltb _ _ e.if2.false, ne_eqb _ _ c.if3.true)
+    rw (le-ltb _ _ e.if-word-lt2.false, le-ltb _ _ e.if-word-gt-NUMBER.false, ne_eqb _ _ c.if-word-ne36.true)
 
-returns-4 : tie.Need-returns-4
+returns-4 : tie.Need-returns
 unfolding is_number all_of
 returns-4 c =
     let d = c.before.before in
     let e = d.before.before in
-    let w = e.before.before.before.args.word.now in
-    rw (le-ltb _ _ e.before.if1.false, le-ltb _ _ e.if2.false, eq-eqb _ _ d.if3.false, c.count.ensures.0, rest 1 w, length-drop 1 w)
+    let w = e.args.word.now in
+    rw (le-ltb _ _ e.if-word-lt2.false, le-ltb _ _ e.if-word-gt-NUMBER.false, eq-eqb _ _ d.if-word-ne36.false, c.count.ensures.0, rest 1 w, length-drop 1 w)
 
-pub is-number-spec : {M : Type 1} → statement M
-is-number-spec =
+pub is_number_spec : {M : Type 1} → statement M
+is_number_spec =
     tie.close
     (tie.spec
     returns

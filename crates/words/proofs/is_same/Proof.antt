@@ -9,38 +9,38 @@ use borrow.Author.Rules.{rules}
 use Rattle.words.proofs.is_same.Statement.{statement}
 use Rattle.words.proofs.is_same.Tie as tie
 
-abbrev invariant-loop : tie.invariant-loop
+abbrev invariant-loop : tie.invariant-loop-i
 invariant-loop a b i₀ i = (i ≤ length a) × (length a ≡ length b) × (same (drop i a) (drop i b) ≡ same a b)
 
-abbrev decreases-loop : tie.decreases-loop
+abbrev decreases-loop : tie.decreases-loop-i
 decreases-loop a b i₀ i = length a - i
 
-returns : tie.Need-returns invariant-loop decreases-loop
-returns c = let a = c.before.args in other_length a.a.now a.b.now c.if1.true
+returns : tie.Need-returns-then-a-b invariant-loop decreases-loop
+returns c = let a = c.args in other_length a.a.now a.b.now c.if-a-b.true
 
-loop-holds : tie.Need-loop-init invariant-loop decreases-loop
-loop-holds c = (omega arith, c.if1.false, refl)
+loop-holds : tie.Need-loop-i-init invariant-loop decreases-loop
+loop-holds c = (omega arith, c.if-a-b.false, refl)
 
-returns-2 : tie.Need-returns-2 invariant-loop decreases-loop
+returns-2 : tie.Need-returns-then-a-i invariant-loop decreases-loop
 returns-2 c =
     let l = c.before.before.before.before in
-    let a = l.before.before.args in
-    sym (differs a.a.now a.b.now l.loop.i (omega arith) (omega arith) c.if2.true) ∙ l.loop.invariant.2
+    let a = l.args in
+    sym (differs a.a.now a.b.now l.loop-i.i (omega arith) (omega arith) c.if-a-i.true) ∙ l.loop-i.invariant.2
 
-loop-again : tie.Need-loop-preserved invariant-loop decreases-loop
+loop-again : tie.Need-loop-i-preserved invariant-loop decreases-loop
 loop-again c =
     let l = c.before.before.before.before in
-    let a = l.before.before.args in
-    (omega arith, l.loop.invariant.1, sym (agrees a.a.now a.b.now l.loop.i (omega arith) (omega arith) c.if2.false) ∙ l.loop.invariant.2)
+    let a = l.args in
+    (omega arith, l.loop-i.invariant.1, sym (agrees a.a.now a.b.now l.loop-i.i (omega arith) (omega arith) c.if-a-i.false) ∙ l.loop-i.invariant.2)
 
-returns-3 : tie.Need-returns-3 invariant-loop decreases-loop
+returns-3 : tie.Need-returns invariant-loop decreases-loop
 returns-3 c =
-    let l = c.before.loop in
-    let a = c.before.before.before.args in
+    let l = c.loop-i in
+    let a = c.args in
     sym (same_end a.a.now a.b.now l.i (omega arith) (omega arith)) ∙ l.invariant.2
 
-pub is-same-spec : {M : Type 1} → statement M
-is-same-spec =
+pub is_same_spec : {M : Type 1} → statement M
+is_same_spec =
     tie.close
     (tie.spec
     invariant-loop

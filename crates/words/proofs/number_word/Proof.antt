@@ -7,8 +7,8 @@ use Rattle.words.proofs.number_word.Statement.{statement}
 use Rattle.words.proofs.number_word.Tie as tie
 
 returns : tie.Need-returns
-returns c = c.number.ensures ∙ ap number_in (rest 1 c.before.before.before.args.word.now)
+returns c = c.number.ensures ∙ ap number_in (rest 1 c.args.word.now)
 
-pub number-word-spec : {M : Type 1} → statement M
-number-word-spec =
+pub number_word_spec : {M : Type 1} → statement M
+number_word_spec =
     tie.close (tie.spec (λ c. search rules) (λ c. search rules) (λ c. search rules) (λ c κs. search rules) returns)

@@ -5,21 +5,21 @@ use borrow.Author.Rules.{rules}
 use Rattle.writer.proofs.write.Statement.{statement}
 use Rattle.writer.proofs.write.Tie as tie
 
-returns : tie.Need-returns
+returns : tie.Need-returns-in-Records
 returns c =
     let w = c.before.before in
     let told = w.before.before in
-    let a = told.before.before.before.before.before.before.args in
-    write_chosen a.format _ told.enum_told.given.1 (window_of a.base a.memory.now a.marks.now) a.header.now a.entry
+    let a = told.args in
+    write_chosen a.format _ told.in-Records.is (window_of a.base a.memory.now a.marks.now) a.header.now a.entry
     a.out.now _ _ w.write.ensures
 
-returns-2 : tie.Need-returns-2
+returns-2 : tie.Need-returns-in-Tape
 returns-2 c =
     let w = c.before.before in
-    let told = w.before.before.before in
-    let a = told.before.before.before.before.before.before.args in
-    write_chosen a.format _ told.format.given.1 (window_of a.base a.memory.now a.marks.now) a.header.now a.entry
-    a.out.now _ _ w.write2.ensures
+    let told = w.before.before in
+    let a = told.args in
+    write_chosen a.format _ told.in-Tape.is (window_of a.base a.memory.now a.marks.now) a.header.now a.entry
+    a.out.now _ _ w.write-in-Tape.ensures
 
 pub write_spec : {M : Type 1} → statement M
 write_spec =
