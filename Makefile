@@ -3,7 +3,7 @@
 # make uninstall      removes what install put there
 # make clean          removes what make made, but not the proofs
 #
-# An archive of a proved crate is made by `rt staticlib`, from its sources, where it is missing or older than they are.
+# An archive of a proved crate is made by `rt lib`, from its sources, where it is missing or older than they are.
 
 PREFIX ?= /usr/local
 BINDIR ?= $(PREFIX)/bin
@@ -19,10 +19,11 @@ CFLAGS ?= -O2 -g
 WARNINGS ?= -Wall -Wextra -pedantic
 RT ?= rt
 
-# The crates with the functions of include/srec.h.
+# The crates with the functions of include/srec.h: static libraries, as crates.txt says.
 CRATES = capi whole_c survey_c merge_c chips_c symbol_c parts_c
 
-ARCHIVES = $(CRATES:%=target/staticlib/lib%.a)
+archive_of = crates/$(1)/out/lib$(1).a
+ARCHIVES = $(foreach crate,$(CRATES),$(call archive_of,$(crate)))
 SOURCES = $(wildcard tools/*.c)
 OBJECTS = $(SOURCES:tools/%.c=target/tools/%.o)
 VERSION = $(shell sed -n 's/^#define SREC_VERSION "\(.*\)"/\1/p' include/srec.h)
@@ -41,18 +42,15 @@ stands_on = $(shell awk -F '[: ]+' -v crate=$(1) ' \
     END { todo = crate; while (todo != "") { split(todo, now, " "); todo = ""; \
         for (i in now) if (!(now[i] in done)) { done[now[i]] = 1; todo = todo under[now[i]]; print now[i] } } }' crates.txt)
 
-# $(call sources_of,CRATES): their files, but not the edits that must fail. The kit has crates of its own, which are not here.
+# $(call sources_of,CRATES): their files, but not the edits that must fail, nor what rt makes. The kit has crates of its own, which
+# are not here, and neither is the word staticlib.
 here = $(wildcard $(1:%=crates/%))
-sources_of = $(if $(here),$(shell find $(here) -type f ! -path '*/must-fail/*'))
+sources_of = $(if $(here),$(shell find $(here) -type f ! -path '*/must-fail/*' ! -path '*/out/*'))
 
-# What the archives stand on is proved first, on all processors: `rt staticlib` would take one crate after the other.
-target/proved: $(call sources_of,$(sort $(foreach crate,$(CRATES),$(call stands_on,$(crate)))))
-	$(RT) check $(CRATES)
-	touch $@
-
+# `rt lib` proves what the crate stands on, too, where that is not proved yet.
 define crate_rule
-target/staticlib/lib$(1).a: $$(call sources_of,$$(call stands_on,$(1))) | target/proved
-	$(RT) staticlib $(1)
+$(call archive_of,$(1)): $$(call sources_of,$$(call stands_on,$(1)))
+	cd crates/$(1) && $(RT) lib
 	touch $$@
 endef
 $(foreach crate,$(CRATES),$(eval $(call crate_rule,$(crate))))
@@ -62,7 +60,7 @@ target/libsrec.a: $(ARCHIVES)
 	rm -rf target/members $@
 	for crate in $(CRATES); do \
 	    mkdir -p target/members/$$crate && \
-	    (cd target/members/$$crate && $(AR) x ../../staticlib/lib$$crate.a) || exit 1; \
+	    (cd target/members/$$crate && $(AR) x ../../../$(call archive_of,$$crate)) || exit 1; \
 	done
 	$(AR) rcs $@ target/members/*/*.o
 
@@ -99,4 +97,4 @@ uninstall:
 # The crates' own archives stay: they take minutes.
 clean:
 	rm -rf target/tools target/members
-	rm -f target/libsrec.a target/proved target/srec target/srec.pc
+	rm -f target/libsrec.a target/srec target/srec.pc

@@ -1,14 +1,15 @@
 #!/bin/sh
 # run.sh [--places | --packed] [--quick] [ROUNDS]: compiles the library's twins and compares them with it. See README.md here.
-# If there is no libcapi.a, libcuts.a, libmerge_c.a, liboverlay_c.a or libpacked_c.a, 'rt staticlib' makes it. SREC_LIB_DIR
+# If there is no libcapi.a, libcuts.a, libmerge_c.a, liboverlay_c.a or libpacked_c.a, 'rt lib' makes it. SREC_LIB_DIR
 # names another folder that has all five.
 set -eu
 root=$(cd "$(dirname "$0")/.." && pwd)
-folder=${SREC_LIB_DIR:-$root/target/staticlib}
-library=$folder/libcapi.a others="$folder/libcuts.a $folder/libmerge_c.a $folder/liboverlay_c.a $folder/libpacked_c.a"
+library= others=
 for name in capi cuts merge_c overlay_c packed_c; do
-    [ -f "$folder/lib$name.a" ] || [ -n "${SREC_LIB_DIR:-}" ] || (cd "$root" && rt staticlib "$name" >&2)
-    [ -f "$folder/lib$name.a" ] || { echo "$folder/lib$name.a is missing" >&2; exit 2; }
+    archive=${SREC_LIB_DIR:-$root/crates/$name/out}/lib$name.a
+    [ -f "$archive" ] || [ -n "${SREC_LIB_DIR:-}" ] || (cd "$root/crates/$name" && rt lib >&2)
+    [ -f "$archive" ] || { echo "$archive is missing" >&2; exit 2; }
+    if [ "$name" = capi ]; then library=$archive; else others="$others $archive"; fi
 done
 bin=$(mktemp -d)
 trap 'rm -rf "$bin"' EXIT

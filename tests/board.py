@@ -4,7 +4,7 @@ cannot read or write, and wrong arguments.
 
     python3 tests/board.py
 
-The program is target/bin/board, which `rt check board` builds."""
+The program is crates/board/out/board, which `rt ci` builds, or `rt run` in crates/board."""
 
 import random
 import subprocess
@@ -15,7 +15,7 @@ from pathlib import Path
 from program import EMPTY_IMAGE, END, ROOT, compare, record
 from stream import CELLS, canonical, refused
 
-BOARD = ROOT / "target" / "bin" / "board"
+BOARD = ROOT / "crates" / "board" / "out" / "board"
 LIMIT = 262144
 USAGE = b"usage: board deal|collect K IN OUT\n"
 

@@ -6,7 +6,7 @@
 An edit of kind 'library' breaks a library: tests/second under the face of include/srec.h (breaks/library/face.rs and
 whole.rs), so no archive and no prover is needed. tests/compare must notice, or tests/c where that does not. An edit of kind
 'answers' breaks tests/second itself in what the row alone does not show; tests/compare must notice that by way of the program
-vectors, which `rt check vectors` builds (and `make` the archive that tests/compare links). An edit of kind 'parts' breaks it
+vectors, which `rt ci` builds (and `make` the archive that tests/compare links). An edit of kind 'parts' breaks it
 in loads in parts, and tests/compare must notice that by way of the program calls. An edit of kind 'overlay' breaks it in
 patches over a base image; tests/compare must notice that by way of the program patches, and so must the oracle's own tests,
 and its test of the cases of crates/patches. An edit of kind 'packed' breaks it in packed marks; tests/compare must notice
@@ -40,7 +40,8 @@ TARGET = TESTS.parent / "target"
 READING = TESTS / "second" / "src"
 # what tests/compare takes if nothing else is named
 PROGRAMS = ("VECTORS", "CALLS", "PATCHES", "DEALS", "SYMBOLIC")
-BUILT = {name: TARGET / "bin" / name.lower() for name in PROGRAMS} | {"SREC_LIB_DIR": TARGET}
+CRATES = TESTS.parent / "crates"
+BUILT = {name: CRATES / name.lower() / "out" / name.lower() for name in PROGRAMS} | {"SREC_LIB_DIR": TARGET}
 READ = ("chips", "expressions", "overlay", "parts", "reading", "sheets", "spans", "symbols", "tape")
 FACE = (BREAKS / "library" / "face.rs", BREAKS / "library" / "whole.rs", TESTS.parent / "include" / "srec.h")
 SOURCES = [*(READING / f"{name}.rs" for name in READ), *FACE]
@@ -147,7 +148,7 @@ def copy_cases(folder, *programs):
         cases = folder / "crates" / program
         cases.mkdir(parents=True)
         for name in ("stdin", "stdout"):
-            shutil.copy(TESTS.parent / "crates" / program / name, cases)
+            shutil.copy(CRATES / program / name, cases)
 
 
 def answers(edit, folder):
@@ -198,26 +199,38 @@ def face(edit, folder):
 def edited(edit, folder):
     """Copies the crates, edited."""
     shutil.copy(TESTS.parent / "crates.txt", folder)
-    shutil.copytree(TESTS.parent / "crates", folder / "crates")
+    shutil.copytree(CRATES, folder / "crates", ignore=shutil.ignore_patterns("out"))
     if edit:
         apply(edit, folder / "crates")
 
 
-def broken(program, edit, folder):
-    """Which of the compiled programs write something else than the file 'stdout' of their crate, in one line."""
-    ran = subprocess.run(["rt", "try", program], cwd=folder, stdout=subprocess.PIPE, stderr=subprocess.STDOUT)
+def broken(program, edit, folder, inputs):
+    """For which of the inputs, each with what must be written for it, the compiled program does something else."""
+    cases = folder / "cases"
+    cases.mkdir()
+    for name, (given, expected) in inputs.items():
+        (cases / name).write_bytes(given)
+        (cases / f"{name}.stdout").write_bytes(expected)
+    command = ["rt", "try", "--cases", str(cases)]
+    ran = subprocess.run(command, cwd=folder / "crates" / program, stdout=subprocess.PIPE, stderr=subprocess.STDOUT)
     printed = ran.stdout.decode("utf-8", "replace")
-    found = re.findall(r"^(ok|FAIL): the native program (.*? (?:ended|failed))", printed, re.MULTILINE)
-    if not found:
+    found = dict(re.findall(r"^case=(\S+) (.*)$", printed, re.MULTILINE))
+    if found.keys() != inputs.keys():
         sys.exit(f"{edit}: no program was compiled: {printed.strip().splitlines()[-1:]}")
-    return "; ".join(name for word, name in found if word == "FAIL")
+    good = {"run=ended", "status=0", "output=expected"}
+    return {name: words for name, words in found.items() if not good <= set(words.split())}
+
+
+def own_case(program):
+    """The input of a crate, and what must be written for it."""
+    return tuple((CRATES / program / name).read_bytes() for name in ("stdin", "stdout"))
 
 
 def calls(edit, folder):
-    """Edits a copy of the crates and gives which of the compiled programs write something else than crates/calls/stdout."""
+    """Edits a copy of the crates and gives whether the compiled program writes something else than crates/calls/stdout."""
     edited(edit, folder)
-    found = broken("calls", edit, folder)
-    return f"calls: {found}" if found else None
+    found = broken("calls", edit, folder, {"calls": own_case("calls")})
+    return "; ".join(f"{name}: {words}" for name, words in found.items()) or None
 
 
 @functools.cache
@@ -237,17 +250,12 @@ def drawn_patches():
 
 
 def patches(edit, folder):
-    """The same of crates/patches, and of drawn cases up to an input that notices; both must."""
+    """The same of crates/patches, and of drawn cases; both must notice."""
     edited(edit, folder)
-    found = {"patches": broken("patches", edit, folder)}
-    for script, answer in drawn_patches():
-        (folder / "crates" / "patches" / "stdin").write_bytes(script)
-        (folder / "crates" / "patches" / "stdout").write_bytes(answer)
-        found["drawn"] = broken("patches", edit, folder)
-        if found["drawn"]:
-            break
-    noticed = [f"{name}: {programs}" for name, programs in found.items() if programs]
-    return "; ".join(noticed) if len(noticed) == len(found) or not edit else None
+    drawn = {f"drawn-{number}": case for number, case in enumerate(drawn_patches())}
+    found = broken("patches", edit, folder, {"patches": own_case("patches"), **drawn})
+    noticed = {name.partition("-")[0]: f"{name}: {words}" for name, words in found.items()}
+    return "; ".join(noticed.values()) if len(noticed) == 2 or not edit else None
 
 
 def try_edit(kind, edit):

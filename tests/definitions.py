@@ -20,7 +20,7 @@ from pathlib import Path
 
 ROOT = Path(__file__).resolve().parent.parent
 BEGUN = ROOT / "tests" / "definitions"
-CRATES = ("lists", "hex", "window", "text", "srec", "tape", "parts", "overlay")
+CRATES = ("lists", "hex_digits", "window", "text", "srec", "tape", "parts", "overlay")
 # the sides that the oracle draws cases of, each with the format whose definitions it is held to; images have none
 SIDES = {
     "load": "srec",
@@ -153,7 +153,7 @@ def unfoldable():
     for crate in CRATES:
         for file in sorted((ROOT / "crates" / crate / "specs").glob("*.antt")):
             for name in re.findall(r"^unfoldable pub (\S+)", file.read_text(encoding="utf-8"), re.MULTILINE):
-                yield f"Rattle·{crate}.specs.{file.stem}.{name}"
+                yield f"Rattle.{crate}.specs.{file.stem}.{name}"
 
 
 def below(crates, listed):
@@ -173,12 +173,11 @@ def write_crates(folder, cases):
     own = below(CRATES, listed)
     lines = [f"{crate}:{listed[crate]}" for crate in listed if crate in own]
     (folder / "crates.txt").write_text("\n".join([*lines, f"sense: {' '.join(CRATES)}", ""]))
+    # with out/rlib a crate that is proved already is not proved again
     for crate in own:
-        shutil.copytree(ROOT / "crates" / crate, folder / "crates" / crate)
-    # with these a crate that is proved already is not proved again
-    for known in ("rlib", "stamp"):
-        if (ROOT / "target" / known).is_dir():
-            shutil.copytree(ROOT / "target" / known, folder / "target" / known)
+        for part in ("src", "specs", "proofs", "out/rlib"):
+            if (ROOT / "crates" / crate / part).is_dir():
+                shutil.copytree(ROOT / "crates" / crate / part, folder / "crates" / crate / part)
 
     statements = [statement(name, case) for name, case in cases.items()]
     comparison, head = [(BEGUN / f"{name}.txt").read_text(encoding="utf-8") for name in ("Comparison", "Statements")]
@@ -199,7 +198,7 @@ def refused(cases):
     with tempfile.TemporaryDirectory() as name:
         folder = Path(name)
         write_crates(folder, cases)
-        ran = run(["rt", "check", "sense"], folder)
+        ran = run(["rt", "check"], folder / "crates" / "sense")
     if ran.returncode == 0:
         return []
     said = ran.stdout + ran.stderr

@@ -3,7 +3,7 @@
 
     python3 tests/program.py
 
-The program is target/bin/bench, which `rt check bench` builds."""
+The program is crates/bench/out/bench, which `rt ci` builds, or `rt run` in crates/bench."""
 
 import subprocess
 import sys
@@ -11,7 +11,7 @@ import threading
 from pathlib import Path
 
 ROOT = Path(__file__).resolve().parent.parent
-BENCH = ROOT / "target" / "bin" / "bench"
+BENCH = ROOT / "crates" / "bench" / "out" / "bench"
 LIMIT = 32768
 END = b"S9030000FC"
 EMPTY_IMAGE = b"S0030000FC\nS5030000FC\nS9030000FC\n"

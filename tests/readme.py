@@ -10,11 +10,12 @@ Commands stand in indented blocks, or in blocks fenced as sh, bash or console, i
 - in a block without '$ ' every line is a command. It prints what is shown for it where the page has it in the first form, too,
   and else it must succeed.
 
-They run in this order, behind `make` and `rt ci`, in a new git repository that has the examples and target of this one. There `rt`
-and `make` only look whether they know what they are asked for, and the gate only whether it can be read. At last git must show, as
-README.md has set it up, what changed between versions of an image."""
+They run in this order, behind `make` and `rt ci`, in a new git repository that has the examples and target of this one, and of its
+crates the programs. There `rt run` runs the program that is built, `make` only looks whether it knows what it is asked for, and the
+gate only whether it can be read. At last git must show, as README.md has set it up, what changed between versions of an image."""
 
 import os
+import re
 import subprocess
 import sys
 import tempfile
@@ -29,7 +30,12 @@ ENVIRONMENT = {name: value for name, value in os.environ.items() if not name.sta
 ENVIRONMENT.update(GIT_CONFIG_GLOBAL=os.devnull, GIT_CONFIG_NOSYSTEM="1", LC_ALL="C", ROOT=str(ROOT))
 
 BUILDERS = """\
-rt() { test -f "$ROOT/crates.txt" && grep -q "^$2:" "$ROOT/crates.txt"; }
+rt() { # run [-- ARGUMENT..]
+    local crate
+    crate=$(basename "$PWD")
+    [ "$1" = run ] && grep -q "^$crate:" "$ROOT/crates.txt" && { [ $# -eq 1 ] || [ "$2" = -- ]; } || return 2
+    "out/$crate" "${@:3}"
+}
 make() { command make -n -C "$ROOT" "$@" >/dev/null; }
 bash() { if [ "$1" = .ci/run ]; then command bash -n "$ROOT/.ci/run"; else command bash "$@"; fi; }
 """
@@ -106,8 +112,13 @@ def main():
         subprocess.run(["git", "init", "-q", folder], env=ENVIRONMENT, check=True)
         for name in ("examples", "target"):
             (Path(folder) / name).symlink_to(ROOT / name)
+        programs = [source.parts[-3] for source in ROOT.glob("crates/*/src/main.rt")]
+        built = {name for name in programs if (ROOT / "crates" / name / "out" / name).exists()}
+        for name in programs:
+            (Path(folder) / "crates" / name).mkdir(parents=True)
+            (Path(folder) / "crates" / name / "out").symlink_to(ROOT / "crates" / name / "out")
         for command, expected in [*commands, (VERSIONS, CHANGED)]:
-            if "target/bin/" in command and not (ROOT / "target" / "bin").exists():
+            if not set(re.findall(r"\bcrates/(\w+)", command)) <= built:
                 print(f"skipped: {command} (the programs in Rattle are not built)")
                 continue
             printed, status = run(command, folder)

@@ -4,7 +4,7 @@ slowly, or that have as many characters as a load in parts takes and one more.
 
     python3 tests/stream.py
 
-The program is target/bin/stream, which `rt check stream` builds."""
+The program is crates/stream/out/stream, which `rt ci` builds, or `rt run` in crates/stream."""
 
 import random
 import subprocess
@@ -15,7 +15,7 @@ from itertools import chain, repeat
 
 from program import EMPTY_IMAGE, END, ROOT, compare, record
 
-STREAM = ROOT / "target" / "bin" / "stream"
+STREAM = ROOT / "crates" / "stream" / "out" / "stream"
 PART = 65536
 CELLS = 65536
 MOST = 2**32 - 1

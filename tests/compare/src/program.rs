@@ -73,7 +73,7 @@ impl Case for second::symbolic::Case {
     }
 }
 
-/// A program of target/bin, unless the variable names another.
+/// The program of a crate, unless the variable names another.
 #[derive(Clone, Copy)]
 pub struct Program {
     pub name: &'static str,
@@ -171,14 +171,18 @@ pub fn compare<C: Case>(cases: &[C], printed: &[u8]) -> Result<(), String> {
 
 impl Program {
     fn path(self) -> PathBuf {
-        let usual = Path::new(env!("CARGO_MANIFEST_DIR")).join("../../target/bin");
-        env::var_os(self.variable).map_or(usual.join(self.name), PathBuf::from)
+        let crates = Path::new(env!("CARGO_MANIFEST_DIR")).join("../../crates");
+        let usual = crates.join(self.name).join("out").join(self.name);
+        env::var_os(self.variable).map_or(usual, PathBuf::from)
     }
 
     /// Runs the program on an input that is no longer than its room.
     pub fn run(self, script: &[u8]) -> Result<Vec<u8>, String> {
         let (name, path) = (self.name, self.path());
-        let failed = |error| format!("{}: {error}; `rt check {name}` builds it", path.display());
+        let failed = |error| {
+            let path = path.display();
+            format!("{path}: {error}; `rt ci` builds it, or `rt run` in crates/{name}")
+        };
         let mut child = Command::new(&path)
             .stdin(Stdio::piped())
             .stdout(Stdio::piped())

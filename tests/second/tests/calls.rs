@@ -1,4 +1,4 @@
-//! The cases of crates/calls, by the second reading: `rt check calls` holds the
+//! The cases of crates/calls, by the second reading: `rt ci calls` holds the
 //! proved library to the same file.
 
 use second::calls::{parse, Case};

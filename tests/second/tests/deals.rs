@@ -1,4 +1,4 @@
-//! The cases of crates/deals, by the second reading: `rt check deals` holds the
+//! The cases of crates/deals, by the second reading: `rt ci deals` holds the
 //! proved library to the same file.
 
 use second::deals::{parse, Case};

@@ -1,4 +1,4 @@
-//! The cases of crates/patches, by the second reading: `rt check patches` holds
+//! The cases of crates/patches, by the second reading: `rt ci patches` holds
 //! the proved library to the same file.
 
 use second::form::Form;

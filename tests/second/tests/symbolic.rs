@@ -1,4 +1,4 @@
-//! The cases of crates/symbolic, by the second reading: `rt check symbolic` holds the
+//! The cases of crates/symbolic, by the second reading: `rt ci symbolic` holds the
 //! proved library to the same file.
 
 use second::symbolic::{parse, Case};

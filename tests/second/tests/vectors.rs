@@ -1,4 +1,4 @@
-//! The cases of crates/vectors, by the second reading: `rt check vectors` holds
+//! The cases of crates/vectors, by the second reading: `rt ci vectors` holds
 //! the proved library to the same file.
 
 use second::form::Form;
