@@ -92,7 +92,7 @@ def window(case):
 
 
 def entry(case):
-    return "Absent" if case["entry"] is None else f"(Present {case['entry']})"
+    return "None" if case["entry"] is None else f"(Some {case['entry']})"
 
 
 def refusal(case):

@@ -15,7 +15,7 @@ pub fn refused_answer(refusal: Refusal) -> Loaded
     Loaded {
         refusal,
         header: window::no_header(),
-        entry: Entry::Absent,
+        entry: None,
         records: 0,
         cells: 0,
     }

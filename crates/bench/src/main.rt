@@ -1,7 +1,6 @@
 // The bench program: S-record text on standard input, its canonical text on standard output, for a window of 8,192 cells from address 0.
 #![tactic(auto)]
 
-use convert::Converted;
 use formats::Format;
 use std::io;
 use std::io::{Read, Write};
@@ -34,8 +33,8 @@ fn main(rt: HostRuntime) -> io::Result<()> {
         &mut canonical,
     );
     match converted {
-        Converted::Refused(refusal) => report::print_refusal(&mut out, refusal),
-        Converted::Text(length) => {
+        Err(refusal) => report::print_refusal(&mut out, refusal),
+        Ok(length) => {
             if length <= ROOM {
                 out.write_all(&canonical[..length])?;
             }

@@ -1,17 +1,18 @@
 -- `next_bit`: how far ahead of a cell the next set bit stands, by the rest of the cell's byte.
-use mathlib.Core.Path.{◌≡◌, refl, ap, ◌∙◌}
-use Prim.Native.Nat.{ℕ, zero, suc, ◌+◌, ◌-◌, ◌*◌, ◌/◌, ◌%◌, ◌^◌, ◌≤◌, ◌<◌}
+use mathlib.Core.Path.{◌≡◌, refl, sym, ap, ◌∙◌}
+use Prim.Native.Nat.{ℕ, zero, suc, ◌+◌, ◌-◌, ◌*◌, ◌/◌, ◌%◌, ◌^◌, ◌≤◌, ◌<◌, max, min}
 use native.Mathlib.Nat.{add-zero, zero-add, suc-add, lt_of_not-le, zero-div}
 use native.Mathlib.Omega.{arith}
 use mathlib.Core.List.{List, [], ◌∷◌}
 use lib.Bits.{bit_xor, differ, xor_lt, xor_zero_r, xor_step, xor_shr}
-use lib.Dec.{eqb, eqb→eq}
+use lib.Dec.{eqb, ltb, eqb→eq}
+use borrow.Author.Tests.{ltb-true, ltb-false}
 use lib.ListN.{length, get_or}
 use lib.Count.{count_trailing_zeros}
 use lib.Pow.{shr-shr, shr_le}
 use Rattle.bits.specs.Bits.{bit, bits}
 use Rattle.bits.specs.Steps.{flipped}
-use Rattle.lists.proofs.TestLaws.{below}
+use Rattle.lists.proofs.TestLaws.{below, by_test}
 use Rattle.window.specs.Walks.{unmarked, run}
 use Rattle.bits.proofs.PackLaws.{bit_small}
 use Rattle.bits.proofs.DigitLaws.{high_digit, trailing_zero, trailing_one}
@@ -84,6 +85,13 @@ first_set ms i k n h s l =
 
 -- ---- the cells of one byte
 
+-- the trailing zeros of what is left of a byte from a bit on lead to a bit of it
+pub inside_byte : (b low : ℕ) → b < 256 → (b / 2 ^ low ≡ 0 → ⊥) → low + count_trailing_zeros 8 (b / 2 ^ low) < 8
+inside_byte b low byte n =
+    let rest : ℕ = b / 2 ^ low in
+    let ahead : ℕ = count_trailing_zeros 8 rest in
+    lt_of_not-le (λ l. absurd (omega (arith, trailing_one 8 rest (omega (arith, shr_le b low)) n, high_digit 8 b (low + ahead) byte l, shr-shr b low ahead)))
+
 -- the bit of a cell behind i in the same byte, by the rest of the byte from i on
 near : (ms : List ℕ) (i j : ℕ) → i ≤ j → j / 8 ≡ i / 8 → bit ms j ≡ get_or ms (i / 8) 0 / 2 ^ (i % 8) / 2 ^ (j - i) % 2
 unfolding bit
@@ -117,17 +125,17 @@ module _ (ms : List ℕ) (i to b : ℕ) (h : i < to) (e : get_or ms (i / 8) 0 �
   -- a rest that is not zero: its trailing zeros lead to the next set bit
   module _ (byte : b < 256) (n : rest ≡ 0 → ⊥) where
     abbrev ahead : ℕ
-    ahead = count_trailing_zeros 32 rest
+    ahead = count_trailing_zeros 8 rest
 
     rest_one : rest / 2 ^ ahead % 2 ≡ 1
-    rest_one = trailing_one 32 rest (omega (arith, shr_le b (i % 8))) n
+    rest_one = trailing_one 8 rest (omega (arith, shr_le b (i % 8))) n
 
     -- it is in this byte
     inside : i % 8 + ahead < 8
-    inside = lt_of_not-le (λ l. absurd (omega (arith, rest_one, high_digit 8 b (i % 8 + ahead) byte l, shr-shr b (i % 8) ahead)))
+    inside = inside_byte b (i % 8) byte n
 
     ahead_clear : (j : ℕ) → i ≤ j → j < i + ahead → bit ms j ≡ 0
-    ahead_clear j l m = rest_bit j l (omega (arith, inside)) ∙ trailing_zero 32 rest (j - i) (omega arith)
+    ahead_clear j l m = rest_bit j l (omega (arith, inside)) ∙ trailing_zero 8 rest (j - i) (omega arith)
 
     ahead_set : bit ms (i + ahead) ≡ 1
     ahead_set =
@@ -141,3 +149,53 @@ module _ (ms : List ℕ) (i to b : ℕ) (h : i < to) (e : get_or ms (i / 8) 0 �
     -- or not
     pub set_behind : to - i ≤ ahead → i + unmarked (bits ms i (to - i)) ≡ to
     set_behind l = rw (all_clear ms i (to - i) (λ j a c. ahead_clear j a (omega arith))) (omega arith)
+
+-- ---- the bytes of a search, from that of the cell `from` on
+
+-- at the end nothing is left
+at_to : (ms : List ℕ) (i to : ℕ) → i ≡ to → i + unmarked (bits ms i (to - i)) ≡ to
+at_to ms i to e = let none : to - i ≡ 0 = omega arith in rw none (omega arith)
+
+-- where the rest of the byte of cell i is zero the search goes on behind it, or ends
+step_on : (ms : List ℕ) (i to j b : ℕ) → i ≤ to → get_or ms (i / 8) 0 ≡ b → j ≡ min to (i + (8 - i % 8)) → b / 2 ^ (i % 8) ≡ 0
+    → j + unmarked (bits ms j (to - j)) ≡ i + unmarked (bits ms i (to - i))
+step_on ms i to j b h e q z =
+    by_test (ltb i to)
+    (λ s. by_test (ltb (8 - i % 8) (to - i))
+    (λ u. let p : j ≡ i + (8 - i % 8) = omega (arith, ltb-true (8 - i % 8) (to - i) u) in rw p (clear_on ms i to b (ltb-true i to s) e z (ltb-true _ _ u)))
+    (λ u. let p : j ≡ to = omega (arith, ltb-false (8 - i % 8) (to - i) u) in at_to ms j to p ∙ sym (clear_last ms i to b (ltb-true i to s) e z (ltb-false _ _ u))))
+    (λ s. let p : i ≡ to = omega (arith, ltb-false i to s) in let r : j ≡ to = omega arith in at_to ms j to r ∙ sym (at_to ms i to p))
+
+-- and else ends in this byte, or before
+step_end : (ms : List ℕ) (i to b : ℕ) → i ≤ to → get_or ms (i / 8) 0 ≡ b → b < 256 → (b / 2 ^ (i % 8) ≡ 0 → ⊥)
+    → min to (i + count_trailing_zeros 8 (b / 2 ^ (i % 8))) ≡ i + unmarked (bits ms i (to - i))
+step_end ms i to b h e small n =
+    let ahead : ℕ = count_trailing_zeros 8 (b / 2 ^ (i % 8)) in
+    by_test (ltb i to)
+    (λ s. by_test (ltb ahead (to - i))
+    (λ u. omega (arith, ltb-true ahead (to - i) u, set_ahead ms i to b (ltb-true i to s) e small n (ltb-true _ _ u)))
+    (λ u. omega (arith, ltb-false ahead (to - i) u, set_behind ms i to b (ltb-true i to s) e small n (ltb-false _ _ u))))
+    (λ s. let p : i ≡ to = omega (arith, ltb-false i to s) in omega (arith, at_to ms i to p))
+
+module _ (ms : List ℕ) (from to k low b : ℕ) (f : from ≤ to) (g : from / 8 ≤ k) (t : 8 * k < to) (l : low ≡ from - 8 * k) (e : get_or ms k 0 ≡ b) where
+  -- the cell that byte k is searched from, and that of the next byte
+  abbrev at : ℕ
+  at = max from (min to (8 * k))
+
+  abbrev next : ℕ
+  next = max from (min to (8 * (k + 1)))
+
+  at_bit : at % 8 ≡ low
+  at_bit = omega arith
+
+  at_byte : get_or ms (at / 8) 0 ≡ b
+  at_byte = let q : at / 8 ≡ k = omega arith in rw q e
+
+  pub turn_on : b / 2 ^ low ≡ 0 → next + unmarked (bits ms next (to - next)) ≡ at + unmarked (bits ms at (to - at))
+  turn_on z = let i : at ≤ to = omega arith in let n : next ≡ min to (at + (8 - at % 8)) = omega arith in step_on ms at to next b i at_byte n (rw at_bit z)
+
+  pub turn_end : b < 256 → (b / 2 ^ low ≡ 0 → ⊥) → min to (8 * k + low + count_trailing_zeros 8 (b / 2 ^ low)) ≡ at + unmarked (bits ms at (to - at))
+  turn_end small n =
+      let i : at ≤ to = omega arith in
+      let q : 8 * k + low ≡ at = omega arith in
+      rw q (rw at_bit at (step_end ms at to b i at_byte small (λ z. n (rw at_bit at z))))

@@ -11,21 +11,14 @@ fn next_bit(marks: &[u8], flip: u8, from: usize, to: usize) -> usize
     requires { (from ≤ to) × (to ≤ 8 * length marks.now) }
     ensures { result ≡ from + unmarked (bits (flipped flip marks.now) from (to - from)) }
 {
-    let mut i = from;
-    while i < to {
-        let low = i % bits::EACH;
-        let rest = ((marks[i / bits::EACH] ^ flip) as u32) >> low;
+    let mut low = from % bits::EACH;
+    for k in from / bits::EACH..bits::byte_count(to) {
+        let rest = (marks[k] ^ flip) >> low;
         if rest != 0 {
-            let ahead = u32::trailing_zeros(rest) as usize;
-            if ahead < to - i {
-                return i + ahead;
-            }
-            return to;
+            let first = bits::EACH * k + low + rest.trailing_zeros() as usize;
+            return to.min(first);
         }
-        if to - i <= bits::EACH - low {
-            return to;
-        }
-        i += bits::EACH - low;
+        low = 0;
     }
     to
 }

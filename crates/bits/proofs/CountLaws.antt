@@ -1,12 +1,14 @@
 -- The ones in packed bytes are the cells that are marked.
 use mathlib.Core.Path.{◌≡◌, refl, ap, ◌∙◌}
-use Prim.Native.Nat.{ℕ, zero, suc, ◌+◌, ◌-◌, ◌*◌, ◌/◌, ◌%◌, ◌≤◌}
+use Prim.Native.Nat.{ℕ, zero, suc, ◌+◌, ◌*◌, ◌/◌, ◌%◌, ◌≤◌}
 use native.Mathlib.Nat.{add-zero, zero-add}
 use native.Mathlib.Omega.{arith}
 use mathlib.Core.List.{List, [], ◌∷◌}
 use mathlib.Core.Option.{none, some}
 use lib.Count.{ones, ones_step}
 use lib.ListN.{length, get_or, replicate}
+use Rattle.std.specs.List.{sum_by}
+use Rattle.std.proofs.lemmas.List.Recursion.{is_sum_by}
 use Rattle.window.specs.Images.{Image, marks_of}
 use Rattle.window.specs.Cells.{cells}
 use Rattle.bits.specs.Bits.{byte_of, pack_from, pack, ones_of}
@@ -98,3 +100,7 @@ none_marked (suc n) = none_marked n
 
 pub ones_clear : (n : ℕ) → ones_of (pack (replicate n 0)) ≡ 0
 ones_clear n = ones_pack (replicate n 0) (binary_replicate n 0 (omega arith)) ∙ none_marked n
+
+-- they are a sum, byte by byte
+pub ones_sum : (ms : List ℕ) → ones_of ms ≡ sum_by ones ms
+ones_sum ms = is_sum_by ones_of ones refl (λ m ms. refl) ms

@@ -1,6 +1,6 @@
 -- `set_bits`: the bits of a stretch of cells are set, one byte after the other.
 use mathlib.Core.Path.{◌≡◌, refl, ap, ◌∙◌}
-use Prim.Native.Nat.{ℕ, ◌+◌, ◌-◌, ◌/◌, ◌%◌, ◌^◌, ◌≤◌, ◌<◌, max}
+use Prim.Native.Nat.{ℕ, ◌+◌, ◌-◌, ◌*◌, ◌/◌, ◌%◌, ◌^◌, ◌≤◌, ◌<◌, max, min}
 use native.Mathlib.Omega.{arith}
 use mathlib.Core.Bool.{false, cond, ◌&&◌}
 use mathlib.Core.List.{List}
@@ -16,8 +16,8 @@ use Rattle.bits.specs.Steps.{Painted}
 use Rattle.bits.proofs.DigitLaws.{or_digit, mask_digit_lem}
 
 -- no bit is set yet
-pub paint_none : (ms : List ℕ) (from : ℕ) → Painted ms from from ms
-paint_none ms from = record { set = λ j l m. absurd (omega arith); below = λ j l. refl; above = λ j l. refl; bytes = λ o. o }
+pub paint_none : (ms : List ℕ) (from i : ℕ) → i ≤ from → Painted ms from i ms
+paint_none ms from i h = record { set = λ j l m. absurd (omega arith); below = λ j l. refl; above = λ j l. refl; bytes = λ o. o }
 
 -- one stretch behind the other
 pub paint_on : (a b c : List ℕ) (from i to : ℕ) → from ≤ i → i ≤ to → Painted a from i b → Painted b i to c → Painted a from to c
@@ -30,7 +30,7 @@ paint_on a b c from i to h k p q =
     }
 
 -- the cells of one byte
-module _ (ms : List ℕ) (i n : ℕ) (some : 0 < n) (fits : i % 8 + n ≤ 8) (h : i / 8 < length ms) where
+module _ (ms : List ℕ) (i n : ℕ) (fits : i % 8 + n ≤ 8) (h : i / 8 < length ms) where
   -- the byte with the cells from i on set
   abbrev own : ℕ
   own = bit_or (get_or ms (i / 8) 0) (2 ^ (i % 8 + n) - 2 ^ (i % 8))
@@ -75,3 +75,22 @@ module _ (ms : List ℕ) (i n : ℕ) (some : 0 < n) (fits : i % 8 + n ≤ 8) (h 
         above = λ j l. stays j (λ e. rw (le-leb (i % 8) (j % 8) (omega arith), le-ltb (j % 8) (i % 8 + n) (omega arith)));
         bytes = still_bytes;
       }
+
+-- bytes painted up to byte k, or from the bit `low` of it on, are painted up to its bit `high`
+pub paint_next : (a b : List ℕ) (from to k low high mark : ℕ) → from ≤ to → from / 8 ≤ k → 8 * k < to → k < length b
+    → low ≡ from - 8 * k → high ≡ min 8 (to - 8 * k) → mark ≡ 2 ^ high - 2 ^ low → Painted a from (max from (min to (8 * k))) b
+    → Painted a from (max from (min to (8 * (k + 1)))) (set b k (bit_or (get_or b k 0) mark))
+paint_next a b from to k low high mark f g t h low-is high-is mark-is p =
+    let i : ℕ = max from (min to (8 * k)) in
+    let first : from ≤ i = omega arith in
+    let last : i ≤ i + (high - low) = omega arith in
+    let q : i / 8 ≡ k = omega arith in
+    let r : i % 8 ≡ low = omega arith in
+    let s : low + (high - low) ≡ high = omega arith in
+    let here : i / 8 < length b = rw q h in
+    let few : high ≤ 8 = omega arith in
+    let inside : i % 8 + (high - low) ≤ 8 = rw (r, s) few in
+    let e : i + (high - low) ≡ max from (min to (8 * (k + 1))) = omega arith in
+    let byte : Painted b i (i + (high - low)) (set b k (bit_or (get_or b k 0) (2 ^ high - 2 ^ low)))
+    = rw (q, r, s) at (paint_byte b i (high - low) inside here) in
+    rw mark-is (rw e at (paint_on a b _ from i (i + (high - low)) first last p byte))

@@ -1,7 +1,7 @@
 // Marks of one bit a cell: cell i in bit i modulo 8 of byte i / 8. Whole bytes are set at once.
 #![tactic(auto)]
 
-ghost use Rattle.std.specs.Prelude.{◌≡◌, ◌+◌, ◌-◌, ◌*◌, ◌^◌, ◌≤◌, min, length};
+ghost use Rattle.std.specs.Prelude.{◌≡◌, ◌-◌, ◌*◌, ◌^◌, ◌≤◌, length};
 ghost use Rattle.bits.specs.Bits.{bits, byte_count, pack, ones_of};
 ghost use Rattle.bits.specs.Steps.{Painted};
 
@@ -12,7 +12,7 @@ pub const EACH: usize = 8;
 pub fn byte_count(cells: usize) -> usize
     ensures { result ≡ byte_count cells }
 {
-    cells / EACH + (cells % EACH + 7) / EACH
+    cells.div_ceil(EACH)
 }
 
 // The bits of a byte from `low` to below `high`.
@@ -23,30 +23,15 @@ fn mask(low: usize, high: usize) -> u8
     ((1u32 << high) - (1u32 << low)) as u8
 }
 
-// Where in its byte a stretch of cells that begins at the bit `low` ends, with the byte at the latest.
-fn end_in(low: usize, cells: usize) -> usize
-    requires { low ≤ 8 }
-    ensures { result ≡ min 8 (low + cells) }
-{
-    if cells < EACH - low {
-        return low + cells;
-    }
-    EACH
-}
-
 // Marks the cells from `from` to below `to`, a byte at a time.
 pub fn set_bits(marks: &mut [u8], from: usize, to: usize)
     requires { (from ≤ to) × (to ≤ 8 * length marks.old) }
     ensures { Painted marks.old from to marks.new }
 {
-    let mut i = from;
-    while i < to {
-        let low = i % EACH;
-        let high = end_in(low, to - i);
-        let own = mask(low, high);
-        let k = i / EACH;
-        marks[k] = marks[k] | own;
-        i += high - low;
+    for k in from / EACH..byte_count(to) {
+        let low = from.saturating_sub(EACH * k);
+        let high = EACH.min(to - EACH * k);
+        marks[k] |= mask(low, high);
     }
 }
 
@@ -56,12 +41,9 @@ pub fn clear_spare(marks: &mut [u8], cells: usize)
     ensures { marks.new ≡ pack (bits marks.old 0 cells) }
 {
     let low = cells % EACH;
-    if low == 0 {
-        return;
+    if low != 0 {
+        marks[cells / EACH] &= mask(0, low);
     }
-    let own = mask(0, low);
-    let last = cells / EACH;
-    marks[last] = marks[last] & own;
 }
 
 // How many cells are marked.
@@ -69,11 +51,5 @@ pub fn count_ones(marks: &[u8]) -> usize
     requires { length marks.now ≤ 2 ^ 32 }
     ensures { result ≡ ones_of marks.now }
 {
-    let mut n: usize = 0;
-    let mut i: usize = 0;
-    while i < marks.len() {
-        n += u32::count_ones(marks[i] as u32) as usize;
-        i += 1;
-    }
-    n
+    marks.iter().map(|byte| byte.count_ones() as usize).sum()
 }

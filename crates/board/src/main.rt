@@ -20,7 +20,7 @@ use std::fs::File;
 use std::io::Read;
 use std::rt::{Env, Files};
 use std::{env, fs, io};
-use window::{Entry, Refusal};
+use window::Refusal;
 
 // The most characters of a file.
 const MOST: usize = 262144;
@@ -87,7 +87,7 @@ fn write_window<R: Files + AllocGlobal>(
     whole: &Buffers,
 ) -> Result<(), Failure> {
     let mut text = vec![in rt.alloc(); 0u8; ROOM]?;
-    let entry = Entry::Present(0);
+    let entry = Some(0);
     let written = srec_write::write(BASE, &whole.memory, &whole.marks, b"", entry, &mut text);
     accept(written.refusal)?;
     let length = marks::smaller(written.length, ROOM);

@@ -1,7 +1,7 @@
 -- What C is told, in numbers, and what the numbers that it tells stand for.
 use Rattle.std.specs.Prelude.{ℕ, Bool, cond, eqb}
-use Rattle.window.specs.declared.Entry.{Entry}
-use Rattle.window.specs.declared.Entry.TheVariants.{Absent, Present}
+use Rattle.window.specs.Entries.{Entry}
+use Rattle.std.specs.Prelude.{None, Some}
 use Rattle.window.specs.declared.Header.{Header}
 use Rattle.window.specs.declared.Loaded.{Loaded}
 use Rattle.window.specs.declared.Refusal.{Refusal}
@@ -49,7 +49,7 @@ reach_of s = record { any = flag_of s.any; lowest = s.lowest; highest = s.highes
 
 -- 0 for no entry, any other number for the address
 unfoldable pub entry_for : ℕ → ℕ → Entry
-entry_for present address = cond (eqb present 0) Absent (Present address)
+entry_for present address = cond (eqb present 0) None (Some address)
 
 -- 0 for tapes that repeat the number and 1 for those that sum, as editions are numbered; any other number for S-records
 unfoldable pub format_for : ℕ → Format

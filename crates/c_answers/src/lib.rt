@@ -48,23 +48,18 @@ pub struct Result {
 pub fn flag(entry: Entry) -> u32
     ensures { result ≡ flag_of (is_present entry) }
 {
-    match entry {
-        Entry::Absent => 0,
-        Entry::Present(_) => 1,
-    }
+    u32::from(entry.is_some())
 }
 
 // The address of an entry, 0 for none.
 pub fn address_of(entry: Entry) -> u32
     ensures { result ≡ address_of entry }
 {
-    match entry {
-        Entry::Absent => 0,
-        Entry::Present(address) => address,
-    }
+    entry.unwrap_or(0)
 }
 
 // The answer of a load as C is told it.
+#[tactic(auto, unfolding(crate::specs::Answers::answer_of))]
 pub fn answer_of(loaded: Loaded) -> Answer
     ensures { result ≡ answer_of loaded }
 {
@@ -100,6 +95,7 @@ pub fn bare_answer(refusal: Refusal, header: Header, entry: Entry) -> Answer
 }
 
 // The answer of a write as C is told it.
+#[tactic(auto, unfolding(crate::specs::Answers::result_of))]
 pub fn result_of(written: Written) -> Result
     ensures { result ≡ result_of written }
 {
@@ -112,6 +108,7 @@ pub fn result_of(written: Written) -> Result
 }
 
 // A span as C is told it.
+#[tactic(auto, unfolding(crate::specs::Answers::reach_of))]
 pub fn reach_of(span: Span) -> Reach
     ensures { result ≡ reach_of span }
 {
@@ -122,25 +119,22 @@ pub fn reach_of(span: Span) -> Reach
     }
 }
 
-// The entry that two numbers tell: none if the first is 0.
+// The entry that two numbers stand for: none if the first is 0.
+#[tactic(auto, unfolding(crate::specs::Answers::entry_for))]
 pub fn entry_for(present: u32, address: u32) -> Entry
     ensures { result ≡ entry_for present address }
 {
-    if present == 0 {
-        return Entry::Absent;
-    }
-    Entry::Present(address)
+    (present != 0).then_some(address)
 }
 
 // The format by its number.
+#[tactic(auto, unfolding(crate::specs::Answers::format_for))]
 pub fn format_for(number: u32) -> Format
     ensures { result ≡ format_for number }
 {
-    if number == 0 {
-        return Format::Tape(Edition::Repeat);
+    match number {
+        0 => Format::Tape(Edition::Repeat),
+        1 => Format::Tape(Edition::Sum),
+        _ => Format::Records,
     }
-    if number == 1 {
-        return Format::Tape(Edition::Sum);
-    }
-    Format::Records
 }

@@ -21,10 +21,10 @@ mod bench;
 mod state;
 
 ghost use Rattle.std.specs.Prelude.{◌≡◌, ◌≤◌, ◌<◌, length, IfOk};
-ghost use Rattle.hex_digits.specs.Tables.{digit_table};
 ghost use Rattle.calls.specs.Rooms.{Room};
 
 use bench::{Bench, ROOM};
+use hex_read::DigitTable;
 use marks::Form;
 use std::io;
 use std::io::{BufWriter, Write};
@@ -158,16 +158,15 @@ fn form_of(sign: u8) -> Form {
 // Runs the words of a case in the window that its heading gives.
 fn run_window<W: Write>(
     out: &mut W,
-    table: &[u32; 256],
+    table: &DigitTable,
     heading: &[u8],
     words: &[u8],
     text: &[u8],
 ) -> io::Result<()>
-    requires table { table.now ≡ digit_table }
     requires heading { 19 ≤ length heading.now }
 {
-    let base = hex_read::number_of(table, &heading[1..9]);
-    let size = hex_read::number_of(table, &heading[10..18]) as usize;
+    let base = table.number_of(&heading[1..9]);
+    let size = table.number_of(&heading[10..18]) as usize;
     let form = form_of(heading[18]);
     let cells = marks::smaller(size, ROOM);
     let mut memory = [0u8; ROOM];
@@ -179,11 +178,10 @@ fn run_window<W: Write>(
 // Runs the first of some cases, whose heading ends at a place, and returns how many characters it has.
 fn run_lines<W: Write>(
     out: &mut W,
-    table: &[u32; 256],
+    table: &DigitTable,
     cases: &[u8],
     end: usize,
 ) -> io::Result<usize>
-    requires table { table.now ≡ digit_table }
     requires heading { 19 ≤ end }
     requires within { end < length cases.now }
     ensures some { IfOk result (λ n. 0 < n) }
@@ -209,8 +207,7 @@ fn run_lines<W: Write>(
 }
 
 // Runs the first of some cases and returns how many characters it has.
-fn run_case<W: Write>(out: &mut W, table: &[u32; 256], cases: &[u8]) -> io::Result<usize>
-    requires table { table.now ≡ digit_table }
+fn run_case<W: Write>(out: &mut W, table: &DigitTable, cases: &[u8]) -> io::Result<usize>
     requires some { 0 < length cases.now }
     ensures some { IfOk result (λ n. 0 < n) }
     ensures within { IfOk result (λ n. n ≤ length cases.now) }
@@ -229,7 +226,7 @@ fn run_case<W: Write>(out: &mut W, table: &[u32; 256], cases: &[u8]) -> io::Resu
 
 // Runs all cases.
 fn run_cases<W: Write>(out: &mut W, cases: &[u8]) -> io::Result<()> {
-    let table = hex_read::digit_table();
+    let table = DigitTable::new();
     let mut at: usize = 0;
     while at < cases.len() {
         at += run_case(out, &table, &cases[at..])?;

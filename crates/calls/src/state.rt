@@ -15,7 +15,7 @@ fn print_end<W: Write>(out: &mut W, ended: bool, entry: Entry) -> io::Result<()>
     if ended {
         return printing::print_entry(out, entry);
     }
-    printing::print_entry(out, Entry::Absent)
+    printing::print_entry(out, None)
 }
 
 // Every number of a state, or its refusal.

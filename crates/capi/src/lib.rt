@@ -2,7 +2,7 @@
 #![tactic(auto)]
 
 ghost use Rattle.std.specs.Prelude.{◌≡◌, [], length};
-ghost use Rattle.window.specs.declared.Entry.TheVariants.{Absent, Present};
+ghost use Rattle.std.specs.Prelude.{None, Some};
 ghost use Rattle.window.specs.Windows.{window_of};
 ghost use Rattle.text.specs.Formats.{plan};
 ghost use Rattle.text.specs.Load.{load, load_answer, memory_after, marks_after};
@@ -12,7 +12,6 @@ ghost use Rattle.tape.specs.Formats.{tape};
 ghost use Rattle.capi.specs.Editions.{edition_of};
 
 use tape::Edition;
-use window::Entry;
 
 // Loads a text into a window: the refusal's number, 0 for accepted.
 #[unsafe(no_mangle)]
@@ -21,9 +20,7 @@ pub extern "C" fn srec_load(text: &[u8], base: u32, memory: &mut [u8], marks: &m
     ensures memory { memory.new ≡ memory_after memory.old (load (window_of base memory.old marks.old) (plan srec text.now)) }
     ensures marks { marks.new ≡ marks_after marks.old (load (window_of base memory.old marks.old) (plan srec text.now)) }
 {
-    let loaded = load::load(text, base, memory, marks);
-    let refusal = loaded.refusal;
-    refusal.reason
+    load::load(text, base, memory, marks).refusal.reason
 }
 
 // Writes the canonical text of a window: its length, 0 for a refusal.
@@ -36,21 +33,21 @@ pub extern "C" fn srec_write(
     entry: u32,
     out: &mut [u8],
 ) -> usize
-    ensures answer { result ≡ (write_answer (write srec (window_of base memory.now marks.now) header.now (Present entry) (length out.old))).length }
-    ensures output { out.new ≡ output_after out.old (write srec (window_of base memory.now marks.now) header.now (Present entry) (length out.old)) }
+    ensures answer { result ≡ (write_answer (write srec (window_of base memory.now marks.now) header.now (Some entry) (length out.old))).length }
+    ensures output { out.new ≡ output_after out.old (write srec (window_of base memory.now marks.now) header.now (Some entry) (length out.old)) }
 {
-    let written = srec_write::write(base, memory, marks, header, Entry::Present(entry), out);
-    written.length
+    srec_write::write(base, memory, marks, header, Some(entry), out).length
 }
 
 // The edition of a tape by its number.
+#[tactic(auto, unfolding(crate::specs::Editions::edition_of))]
 fn edition_of(number: u32) -> Edition
     ensures { result ≡ edition_of number }
 {
-    if number == 0 {
-        return Edition::Repeat;
+    match number {
+        0 => Edition::Repeat,
+        _ => Edition::Sum,
     }
-    Edition::Sum
 }
 
 // Loads a paper tape of an edition into a window: the refusal's number, 0 for accepted.
@@ -66,9 +63,9 @@ pub extern "C" fn srec_load_tape(
     ensures memory { memory.new ≡ memory_after memory.old (load (window_of base memory.old marks.old) (plan (tape (edition_of edition)) text.now)) }
     ensures marks { marks.new ≡ marks_after marks.old (load (window_of base memory.old marks.old) (plan (tape (edition_of edition)) text.now)) }
 {
-    let loaded = load::load_tape(edition_of(edition), text, base, memory, marks);
-    let refusal = loaded.refusal;
-    refusal.reason
+    load::load_tape(edition_of(edition), text, base, memory, marks)
+        .refusal
+        .reason
 }
 
 // Writes the canonical tape of a window in an edition, without a header and an entry: its length, 0 for a refusal.
@@ -80,18 +77,8 @@ pub extern "C" fn srec_write_tape(
     marks: &[u8],
     out: &mut [u8],
 ) -> usize
-    ensures answer { result ≡ (write_answer (write (tape (edition_of edition)) (window_of base memory.now marks.now) [] Absent (length out.old))).length }
-    ensures output { out.new ≡ output_after out.old (write (tape (edition_of edition)) (window_of base memory.now marks.now) [] Absent (length out.old)) }
+    ensures answer { result ≡ (write_answer (write (tape (edition_of edition)) (window_of base memory.now marks.now) [] None (length out.old))).length }
+    ensures output { out.new ≡ output_after out.old (write (tape (edition_of edition)) (window_of base memory.now marks.now) [] None (length out.old)) }
 {
-    let none = [0u8; 0];
-    let written = tape_write::write(
-        edition_of(edition),
-        base,
-        memory,
-        marks,
-        &none,
-        Entry::Absent,
-        out,
-    );
-    written.length
+    tape_write::write(edition_of(edition), base, memory, marks, &[], None, out).length
 }

@@ -7,7 +7,7 @@ use mathlib.Core.Bool.{false}
 use mathlib.Core.List.{List, [], ◌∷◌}
 use lib.ListN.{length, drop, replicate}
 use Rattle.window.specs.declared.Refusal.{Refusal}
-use Rattle.window.specs.declared.Entry.{Entry}
+use Rattle.window.specs.Entries.{Entry}
 use Rattle.window.specs.Images.{Image, blank, marks_of}
 use Rattle.window.specs.Plans.{refusal_with, refusal, Outcome, row12, row13, filled, placed}
 use Rattle.window.specs.Plans.Outcome.{refused}
@@ -17,21 +17,19 @@ use Rattle.window.proofs.ClaimLaws.{claim_refused, claim_granted, claim_marks}
 use Rattle.marks.specs.declared.Form.{Form}
 use Rattle.marks.specs.Forms.{flags, stored, Tidy, marks_in}
 use Rattle.marks.proofs.FormLaws.{flags_are, image_tidy}
-use Rattle.text.specs.declared.Found.TheVariants.{Nothing}
+use Rattle.std.specs.Prelude.{Result, Ok, Err}
 use Rattle.text.specs.declared.State.{State}
 use Rattle.text.specs.declared.Step.{Step}
 use Rattle.text.specs.declared.Step.TheVariants.{Refuse, Pass, Put, Finish}
 use Rattle.text.specs.Lines.{Line, lines}
-use Rattle.text.specs.Finds.{found}
 use Rattle.text.specs.Scan.{State as ScanState, more, ended}
 use Rattle.text.specs.Steps.{state_with, as_step}
 use Rattle.text.specs.Formats.{Format, plan}
 use Rattle.text.proofs.FindLaws.{part, Next}
 use Rattle.text.proofs.FormatLaws.{Limits, Lawful}
 use Rattle.text.proofs.StepLaws.{Counting}
-use Rattle.text.proofs.LeftLaws.{Left, left_start, PutOn, left_none, left_refused, left_ended, left_last, left_pass, left_put}
-use Rattle.checking.specs.declared.Checked.TheVariants.{Refused, Accepted}
-use Rattle.checking.specs.declared.Checked.{Checked}
+use Rattle.text.proofs.LeftLaws.{Left, left_start, PutOn, left_refused, left_ended, left_last, left_pass, left_put}
+use Rattle.checking.specs.declared.Accepted.{Accepted}
 use Rattle.checking.specs.Answers.{checked_as, MarkedBy, ended_as}
 
 -- the marks show the image of a walk, and what is left is placed on it
@@ -58,12 +56,12 @@ going_start F form text base size marks m =
     }
 
 -- what the walk answers, and the marks that it leaves
-abbrev Told : Form → Outcome → Checked → List ℕ → Type 0
-Told form o r marks = (r ≡ checked_as o) × MarkedBy form o marks
+abbrev Told : Form → Outcome → Result Accepted Refusal → List ℕ → Type 0
+Told form o r marks = record { answer : r ≡ checked_as o; marks : MarkedBy form o marks }
 
 -- an answer that is a refusal
-tell : (form : Form) (f : Refusal) (o : Outcome) (marks : List ℕ) → refused f ≡ o → Told form o (Refused f) marks
-tell form f o marks e = subst (λ (x : Outcome). Told form x (Refused f) marks) e (refl, tt)
+tell : (form : Form) (f : Refusal) (o : Outcome) (marks : List ℕ) → refused f ≡ o → Told form o (Err f) marks
+tell form f o marks e = subst (λ (x : Outcome). Told form x (Err f) marks) e (record { answer = refl; marks = tt })
 
 module _ {F : Format} {L : Limits} (laws : Lawful F L)
     (k : Counting F) {form : Form} {text : List ℕ} {base size : ℕ} {marks : List ℕ} {n : State} {at : ℕ}
@@ -80,16 +78,11 @@ module _ {F : Format} {L : Limits} (laws : Lawful F L)
   pub tidy_now : Tidy form size marks
   tidy_now = image_tidy form g.img size g.long marks g.marks_are
 
-  -- no line is left, and none has ended the text
-  pub row_14 : (marks' : List ℕ) → Nothing ≡ found (lines F.gap at (drop at text))
-      → Told form whole (Refused (refusal 14 n.number (length text))) marks'
-  row_14 marks' q = tell form _ whole marks' (left_none laws k g.left q)
-
   module _ {from to : ℕ} (x : Next F.gap text at from to) {step : Step}
       (q : step ≡ as_step from (state_with [] n) (F.step (state_with [] n) (part text from to))) where
     -- a row of the format
     pub told_refused : (marks' : List ℕ) {reason place want : ℕ} → step ≡ Refuse reason place want
-        → Told form whole (Refused (refusal_with reason (n.number + 1) place want)) marks'
+        → Told form whole (Err (refusal_with reason (n.number + 1) place want)) marks'
     told_refused marks' {reason} {place} {want} e =
         tell form _ whole marks'
         (ap (λ (i : ℕ). refused (refusal_with reason i place want)) (add-one n.number) ∙ left_refused laws k g.left x q e)
@@ -111,9 +104,12 @@ module _ {F : Format} {L : Limits} (laws : Lawful F L)
           go : (ls : List Line) → placed base g.img (ended (state_with g.left.header n) entry ls) ≡ whole → Told form whole (ended_as m entry ls) marks'
           go [] p =
               subst (λ (o : Outcome). Told form o (ended_as m entry []) marks') p
-              ((λ i. Accepted entry (behind_last i).records (behind_last i).cells), same ∙ g.marks_are)
+              (record {
+                answer = λ i. Ok (record { entry = entry; records = (behind_last i).records; cells = (behind_last i).cells });
+                marks = same ∙ g.marks_are;
+              })
           go (l ∷ ls) p =
-              subst (λ (i : ℕ). Told form whole (Refused (refusal 2 (suc i) l.place)) marks')
+              subst (λ (i : ℕ). Told form whole (Err (refusal 2 (suc i) l.place)) marks')
               (ap (λ (u : ScanState). u.number) (sym behind_last))
               (tell form _ whole marks' p)
 
@@ -136,7 +132,7 @@ module _ {F : Format} {L : Limits} (laws : Lawful F L)
       row_is = c ∙ (λ i. claim_row base (flags_now i) a (data_line.count_is i))
 
       -- rows 12 and 13
-      pub told_claim : (marks' : List ℕ) → (row ≡ 0 → ⊥) → Told form whole (Refused (refusal row (n.number + 1) from)) marks'
+      pub told_claim : (marks' : List ℕ) → (row ≡ 0 → ⊥) → Told form whole (Err (refusal row (n.number + 1) from)) marks'
       told_claim marks' z =
           tell form _ whole marks' (ap (λ (i : ℕ). refused (refusal row i from)) (add-one n.number)
           ∙ sym (claim_refused base g.img a ds row (suc n.number) from data_line.rest row_is z)

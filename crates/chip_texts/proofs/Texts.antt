@@ -10,8 +10,8 @@ use lib.Dec.{ltb}
 use lib.ListN.{length, get_or, length-map}
 use borrow.Author.Tests.{ltb-true, ltb-false}
 use Rattle.lists.proofs.TestLaws.{by_test}
-use Rattle.window.specs.declared.Entry.{Entry}
-use Rattle.window.specs.declared.Entry.TheVariants.{Present, Absent}
+use Rattle.window.specs.Entries.{Entry}
+use Rattle.std.specs.Prelude.{Some, None}
 use Rattle.window.specs.declared.Loaded.{Loaded}
 use Rattle.window.specs.Windows.{Window, Allowed, Marked, row16}
 use Rattle.window.specs.Images.{Image, mark}
@@ -218,7 +218,7 @@ module _ (F : Format) (L : Limits) (laws : Lawful F L) (e : Entry) (no_header : 
 -- the chips' texts restore the image
 pub texts_restore : TextsRestore
 texts_restore k R W b v h bytes z same =
-    restored srec limits lawful (Present 0) (record { bytes = tt; short = omega arith }) (record { present = refl; small = omega arith })
+    restored srec limits lawful (Some 0) (record { bytes = tt; short = omega arith }) (record { present = refl; small = omega arith })
     k W b v h bytes below same R z
   where
     below : (A B : ℕ) → Marked W A B → A / k < 2 ^ 32
@@ -227,5 +227,5 @@ texts_restore k R W b v h bytes z same =
 -- so do their tapes
 pub tapes_restore : TapesRestore
 tapes_restore edition k R W b v h bytes low z same =
-    restored (tape edition) tape-limits (tape-lawful edition) Absent (record { bytes = tt; short = omega arith }) (record { present = refl; small = omega arith })
+    restored (tape edition) tape-limits (tape-lawful edition) None (record { bytes = tt; short = omega arith }) (record { present = refl; small = omega arith })
     k W b v h bytes low same R z

@@ -1,8 +1,8 @@
 -- The texts of chips (Req 12): "a text by a separate call of 01's writer", loaded again and collected. The request asks for S-records; tapes
 -- come with the same proof. The proofs are in proofs/Texts.antt.
 use Rattle.std.specs.Prelude.{◌≡◌, ℕ, ◌/◌, ◌^◌, ◌<◌, true, false, List, [], ◌↔◌, get_or}
-use Rattle.window.specs.declared.Entry.{Entry}
-use Rattle.window.specs.declared.Entry.TheVariants.{Present, Absent}
+use Rattle.window.specs.Entries.{Entry}
+use Rattle.std.specs.Prelude.{Some, None}
 use Rattle.window.specs.Windows.{Window, Marked}
 use Rattle.window.specs.Plans.{passes}
 use Rattle.text.specs.Formats.{Format}
@@ -49,10 +49,10 @@ pub record Restored (F : Format) (e : Entry) (k : ℕ) (R W : Window) (b v : Boa
 abbrev pub TextsRestore : Type 0
 TextsRestore =
     (k : ℕ) (R W : Window) (b v : Board) → passes (deal_refusal k W b) ≡ true → ((i : ℕ) → get_or W.memory i 0 < 256)
-    → SameWindow R W → SameLengths v b → Restored srec (Present 0) k R W b v
+    → SameWindow R W → SameLengths v b → Restored srec (Some 0) k R W b v
 
 -- of tapes, of either edition, which have no entry, where no marked cell of a chip lies above FFFF
 abbrev pub TapesRestore : Type 0
 TapesRestore =
     (edition : Edition) (k : ℕ) (R W : Window) (b v : Board) → passes (deal_refusal k W b) ≡ true → ((i : ℕ) → get_or W.memory i 0 < 256)
-    → ((A B : ℕ) → Marked W A B → A / k < 2 ^ 16) → SameWindow R W → SameLengths v b → Restored (tape edition) Absent k R W b v
+    → ((A B : ℕ) → Marked W A B → A / k < 2 ^ 16) → SameWindow R W → SameLengths v b → Restored (tape edition) None k R W b v

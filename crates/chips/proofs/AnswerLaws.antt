@@ -1,39 +1,48 @@
--- The answers of calls: rows 21 and 1 by lengths, and what a refused call leaves.
-use mathlib.Core.Path.{◌≡◌, sym, ◌∙◌}
+-- The answers of calls: the refusals that checks tell, and what a refused call leaves.
+use mathlib.Core.Path.{◌≡◌}
 use Prim.Native.Nat.{ℕ}
-use mathlib.Core.Bool.{cond}
-use mathlib.Core.List.{List}
-use lib.Dec.{eqb}
+use mathlib.Core.Bool.{or-false}
+use mathlib.Core.List.{List, [], ◌∷◌}
+use native.Mathlib.Omega.{arith}
+use Rattle.std.specs.Prelude.{Result}
 use lib.ListN.{length}
 use borrow.Author.Tests.{eq-eqb, ne_eqb}
 use Rattle.lists.proofs.TestLaws.{by_test}
 use Rattle.window.specs.declared.Refusal.{Refusal}
-use Rattle.window.specs.Windows.{window_of, row1}
+use Rattle.window.specs.Windows.{window_of, row1, row16}
 use Rattle.window.specs.Images.{Image}
-use Rattle.window.specs.Plans.{refusal}
+use Rattle.chips.specs.declared.Fault.{Fault}
+use Rattle.chips.specs.declared.Fault.TheVariants.{Uneven, Mark}
+use Rattle.chips.specs.Shares.{share}
 use Rattle.chips.specs.Boards.{Buffers, Board, received}
-use Rattle.chips.specs.Refusals.{row21, row1_chips, rows21_and1_or}
+use Rattle.chips.specs.Refusals.{row21, lengths_differ, row1_chips, rows21_and1_or, row16_or}
 use Rattle.chips.specs.Calls.{buffers_after}
-use Rattle.chips.specs.Promises.{unfit, length_row}
+use Rattle.chips.specs.Promises.{refusal_of, told, lengths_of, unfit, lengths_checked, marks_checked}
 
 module _ (k base : ℕ) (memory marks : List ℕ) (b : Board) where
-  -- the row that the lengths give
-  abbrev pub row_of : ℕ
-  row_of =
-      length_row k base (length memory) (length marks) (length b.first.memory) (length b.first.marks) (length b.second.memory) (length b.second.marks)
-      (length b.third.memory) (length b.third.marks) (length b.fourth.memory) (length b.fourth.marks)
+  -- the check of the lengths
+  abbrev pub checked : Result (Unit {0}) Fault
+  checked =
+      lengths_checked k base (lengths_of memory marks)
+      (lengths_of b.first.memory b.first.marks ∷ lengths_of b.second.memory b.second.marks ∷ lengths_of b.third.memory b.third.marks ∷ lengths_of b.fourth.memory b.fourth.marks ∷ [])
 
-  row_is : (next : Refusal) → rows21_and1_or k (window_of base memory marks) b next ≡ cond (eqb row_of 0) next (refusal row_of 0 0)
-  unfolding rows21_and1_or length_row row1_chips unfit row1
-  row_is next =
-      by_test (row21 k base (length memory)) (λ t. rw t)
-      (λ t. by_test (row1_chips k (window_of base memory marks) b) (λ u. rw (t, u)) (λ u. rw (t, u)))
+  pub lengths_told : (next : Refusal) → rows21_and1_or k (window_of base memory marks) b next ≡ told next checked
+  unfolding rows21_and1_or lengths_checked row1_chips unfit row1
+  lengths_told next =
+      rw (or-false (lengths_differ (share k 3 (length memory)) (length b.fourth.memory) (length b.fourth.marks)))
+      (by_test (row21 k base (length memory)) (λ t. rw t)
+      (λ t. by_test (row1_chips k (window_of base memory marks) b) (λ u. rw (t, u)) (λ u. rw (t, u))))
 
-  pub row_refuses : (next : Refusal) → (row_of ≡ 0 → ⊥) → refusal row_of 0 0 ≡ rows21_and1_or k (window_of base memory marks) b next
-  row_refuses next h = sym (row_is next ∙ rw (ne_eqb row_of 0 h))
+-- the check of marks
+pub marks_told : (marks : List ℕ) (next : Refusal) → row16_or marks next ≡ told next (marks_checked marks)
+unfolding row16_or marks_checked
+marks_told marks next = by_test (row16 marks) (λ t. rw t) (λ t. rw t)
 
-  pub row_passes : (next : Refusal) → row_of ≡ 0 → next ≡ rows21_and1_or k (window_of base memory marks) b next
-  row_passes next h = sym (row_is next ∙ rw (eq-eqb row_of 0 h))
+-- a fault has a reason
+pub fault_refuses : (fault : Fault) → (refusal_of fault).reason ≡ 0 → ⊥
+fault_refuses Uneven h = omega arith
+fault_refuses Fault.Lengths h = omega arith
+fault_refuses (Mark place) h = omega arith
 
 -- a refused call changes nothing
 pub leaves_old : (f r : Refusal) (c : Buffers) (img : Image) → r ≡ f → (r.reason ≡ 0 → ⊥) → c ≡ buffers_after f c img

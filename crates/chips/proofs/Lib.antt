@@ -1,8 +1,6 @@
 pub mod TestLaws
 pub mod LengthLaws
 pub mod BadLaws
-pub mod FillLaws
-pub mod RowLaws
 pub mod ReceiveLaws
 pub mod RenewedLaws
 pub mod ShareLaws

@@ -22,13 +22,13 @@ module _ (l part : List ℕ) (at to : ℕ) (rises : at ≤ to) (fit : to ≤ len
   put_over : put_mid at (to - at) l part ≡ over l at part
   put_over = lent_over at (to - at) l part (sym long)
 
-  put_length : length (put_mid at (to - at) l part) ≡ length l
+  pub put_length : length (put_mid at (to - at) l part) ≡ length l
   put_length = ap length put_over ∙ over_length l at part (omega arith)
 
-  put_in : (j : ℕ) → at ≤ j → j < to → get_or (put_mid at (to - at) l part) j 0 ≡ get_or part (j - at) 0
+  pub put_in : (j : ℕ) → at ≤ j → j < to → get_or (put_mid at (to - at) l part) j 0 ≡ get_or part (j - at) 0
   put_in j h u = ap (λ (x : List ℕ). get_or x j 0) put_over ∙ over_inside l part at (omega arith) j h (omega arith)
 
-  put_out : (j : ℕ) → (j < at) ⊎ (to ≤ j) → get_or (put_mid at (to - at) l part) j 0 ≡ get_or l j 0
+  pub put_out : (j : ℕ) → (j < at) ⊎ (to ≤ j) → get_or (put_mid at (to - at) l part) j 0 ≡ get_or l j 0
   put_out j (inl h) = ap (λ (x : List ℕ). get_or x j 0) put_over ∙ over_below l part at (omega arith) j h
   put_out j (inr h) = ap (λ (x : List ℕ). get_or x j 0) put_over ∙ over_above l part at (omega arith) j (omega arith)
 

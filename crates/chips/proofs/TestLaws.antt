@@ -27,14 +27,6 @@ pub some_chips : (k : ℕ) → Count k → 0 < k
 some_chips k (inl e) = omega arith
 some_chips k (inr e) = omega arith
 
-pub two_chips : (k : ℕ) → Count k → 1 < k
-two_chips k (inl e) = omega arith
-two_chips k (inr e) = omega arith
-
 pub at_most_four : (k : ℕ) → Count k → k ≤ 4
 at_most_four k (inl e) = omega arith
 at_most_four k (inr e) = omega arith
-
-pub not_two : (k : ℕ) → Count k → (k ≡ 2 → ⊥) → k ≡ 4
-not_two k (inl e) n = absurd (n e)
-not_two k (inr e) n = e

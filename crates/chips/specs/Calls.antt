@@ -1,7 +1,7 @@
 -- Dealing and collecting as their caller sees them: the answers, and the receiving buffers afterwards.
 use Rattle.std.specs.Prelude.{ℕ, cond, [], length}
 use Rattle.window.specs.declared.Refusal.{Refusal}
-use Rattle.window.specs.declared.Entry.TheVariants.{Absent}
+use Rattle.std.specs.Prelude.{None}
 use Rattle.window.specs.Windows.{Window}
 use Rattle.window.specs.Images.{Image, image}
 use Rattle.window.specs.Headers.{header_of}
@@ -38,4 +38,4 @@ collected_whole k W b = buffers_after (collect_refusal k W b) (buffers_of W.memo
 
 -- "collecting gives an empty header and an absent entry", a refused one too
 abbrev pub collect_answer : ℕ → Window → Board → Collected
-collect_answer k W b = record { refusal = collect_refusal k W b; header = header_of []; entry = Absent }
+collect_answer k W b = record { refusal = collect_refusal k W b; header = header_of []; entry = None }

@@ -1,7 +1,12 @@
 -- What functions promise to each other.
-use Rattle.std.specs.Prelude.{◌≡◌, ℕ, ◌+◌, ◌^◌, ◌≤◌, ◌<◌, Bool, cond, not, ◌||◌, false, List, ◌⊎◌, eqb, ltb, length, get_or, take}
-use Rattle.window.specs.Windows.{row16}
+use Rattle.std.specs.Prelude.{◌≡◌, ℕ, ◌+◌, ◌^◌, ◌≤◌, ◌<◌, Bool, cond, not, ◌||◌, false, List, [], ◌∷◌, ◌⊎◌, Result, Ok, Err, eqb, ltb, length, get_or, take}
+use Rattle.window.specs.declared.Refusal.{Refusal}
+use Rattle.window.specs.Plans.{refusal}
+use Rattle.window.specs.Windows.{first_bad_mark, row16}
 use Rattle.window.specs.Images.{image, overlaid}
+use Rattle.chips.specs.declared.Fault.{Fault}
+use Rattle.chips.specs.declared.Fault.TheVariants.{Uneven, Mark}
+use Rattle.chips.specs.declared.Lengths.{Lengths}
 use Rattle.chips.specs.Shares.{share}
 use Rattle.chips.specs.Boards.{Buffers}
 use Rattle.chips.specs.Refusals.{row21, lengths_differ}
@@ -10,16 +15,37 @@ use Rattle.chips.specs.Refusals.{row21, lengths_differ}
 abbrev pub Count : ℕ → Type 0
 Count k = (k ≡ 2) ⊎ (k ≡ 4)
 
--- row 1 by the lengths of buffers, those of the whole first
-unfoldable pub unfit : ℕ → ℕ → ℕ → ℕ → ℕ → ℕ → ℕ → ℕ → ℕ → ℕ → ℕ → ℕ → Bool
-unfit k base memory marks m₀ s₀ m₁ s₁ m₂ s₂ m₃ s₃ =
-    not (eqb marks memory) || ltb (2 ^ 32) (base + memory)
-    || (lengths_differ (share k 0 memory) m₀ s₀ || (lengths_differ (share k 1 memory) m₁ s₁ || (lengths_differ (share k 2 memory) m₂ s₂ || lengths_differ (share k 3 memory) m₃ s₃)))
+-- the refusal of a fault
+abbrev pub refusal_of : Fault → Refusal
+refusal_of Uneven = refusal 21 0 0
+refusal_of Fault.Lengths = refusal 1 0 0
+refusal_of (Mark place) = refusal 16 0 place
 
--- rows 21 and 1: the row that applies, or 0
-unfoldable pub length_row : ℕ → ℕ → ℕ → ℕ → ℕ → ℕ → ℕ → ℕ → ℕ → ℕ → ℕ → ℕ → ℕ
-length_row k base memory marks m₀ s₀ m₁ s₁ m₂ s₂ m₃ s₃ =
-    cond (row21 k base memory) 21 (cond (unfit k base memory marks m₀ s₀ m₁ s₁ m₂ s₂ m₃ s₃) 1 0)
+-- what is answered behind a check: its fault's refusal, or else `next`
+abbrev pub told : Refusal → Result (Unit {0}) Fault → Refusal
+told next (Ok u) = next
+told next (Err fault) = refusal_of fault
+
+-- the lengths of buffers
+abbrev pub lengths_of : List ℕ → List ℕ → Lengths
+lengths_of memory marks = record { memory = length memory; marks = length marks }
+
+-- the lengths of one of these chips differ from its share of n cells; the first has number `chip`
+abbrev pub misfits : ℕ → ℕ → ℕ → List Lengths → Bool
+misfits k n chip [] = false
+misfits k n chip (l ∷ ls) = lengths_differ (share k chip n) l.memory l.marks || misfits k n (chip + 1) ls
+
+-- row 1 by the lengths of the whole and of the chips
+unfoldable pub unfit : ℕ → ℕ → Lengths → List Lengths → Bool
+unfit k base whole chips = not (eqb whole.marks whole.memory) || ltb (2 ^ 32) (base + whole.memory) || misfits k whole.memory 0 chips
+
+-- rows 21 and 1
+unfoldable pub lengths_checked : ℕ → ℕ → Lengths → List Lengths → Result (Unit {0}) Fault
+lengths_checked k base whole chips = cond (row21 k base whole.memory) (Err Uneven) (cond (unfit k base whole chips) (Err Fault.Lengths) (Ok tt))
+
+-- row 16 of some marks
+unfoldable pub marks_checked : List ℕ → Result (Unit {0}) Fault
+marks_checked marks = cond (row16 marks) (Err (Mark (first_bad_mark marks))) (Ok tt)
 
 -- a byte that receives: the new one where it is marked, else the old
 unfoldable pub chosen : ℕ → ℕ → ℕ → ℕ

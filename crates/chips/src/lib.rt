@@ -1,12 +1,10 @@
 // Chips that share an image: rows 21, 1 and 16 of dealing and collecting, and the size of a row.
 #![tactic(auto)]
 
-ghost use Rattle.std.specs.Prelude.{◌≡◌, not, false, min, ◌<◌, length};
-ghost use Rattle.window.specs.Plans.{refusal};
-ghost use Rattle.window.specs.Images.{image};
+ghost use Rattle.std.specs.Prelude.{◌≡◌, min, ◌<◌};
 ghost use Rattle.chips.specs.Shares.{share};
-ghost use Rattle.chips.specs.Refusals.{not_two_or_four, row21, lengths_differ, row16_or};
-ghost use Rattle.chips.specs.Promises.{unfit, length_row};
+ghost use Rattle.chips.specs.Refusals.{row21, lengths_differ};
+ghost use Rattle.chips.specs.Promises.{refusal_of, lengths_of, misfits, unfit, lengths_checked, marks_checked};
 
 use window::{Entry, Header, Refusal};
 
@@ -19,136 +17,130 @@ pub struct Collected {
 }
 
 // A row has so many cells of each chip.
-const ROW: usize = 16;
+pub const ROW: usize = 16;
 
 // Behind the last address.
 const TOP: usize = 1 << 32;
 
-// Is this no number of chips?
-fn is_wrong(k: usize) -> bool
-    ensures { result ≡ not_two_or_four k }
-{
-    if k == 2 {
-        return false;
+// Why dealing or collecting is refused.
+#[derive(Clone, Copy)]
+pub enum Fault {
+    // The number of chips is not 2 or 4, or base or length is no multiple of it.
+    Uneven,
+    // The window is too long, or lengths don't match.
+    Lengths,
+    // A mark that is sent is neither 0 nor 1: its index.
+    Mark(usize),
+}
+
+impl Fault {
+    // The refusal, by its row.
+    pub fn refusal(self) -> Refusal
+        ensures { result ≡ refusal_of self }
+    {
+        match self {
+            Fault::Uneven => window::refuse(21, 0, 0),
+            Fault::Lengths => window::refuse(1, 0, 0),
+            Fault::Mark(place) => window::refuse(16, 0, place),
+        }
     }
-    k != 4
+}
+
+// How long a memory and its marks are.
+#[derive(Clone, Copy)]
+pub struct Lengths {
+    pub memory: usize,
+    pub marks: usize,
+}
+
+impl Lengths {
+    pub fn of(memory: &[u8], marks: &[u8]) -> Lengths
+        ensures { result ≡ lengths_of memory.now marks.now }
+    {
+        Lengths {
+            memory: memory.len(),
+            marks: marks.len(),
+        }
+    }
 }
 
 // How many of so many cells a chip has.
+#[tactic(auto, unfolding(crate::specs::Shares::share))]
 fn share_of(k: usize, chip: usize, cells: usize) -> usize
     requires { 0 < k }
     ensures { result ≡ share k chip cells }
 {
-    if chip < k {
-        return cells / k;
-    }
-    0
+    if chip < k { cells / k } else { 0 }
 }
 
 // Has a chip that is to have so many cells another number of memory bytes or marks?
-fn is_misfit(cells: usize, memory: usize, marks: usize) -> bool
-    ensures { result ≡ lengths_differ cells memory marks }
+#[tactic(auto, unfolding(crate::specs::Refusals::lengths_differ))]
+fn is_misfit(cells: usize, chip: Lengths) -> bool
+    ensures { result ≡ lengths_differ cells chip.memory chip.marks }
 {
-    if memory != cells {
-        return true;
+    chip.memory != cells || chip.marks != cells
+}
+
+// Has one of the chips?
+fn has_misfit(k: usize, cells: usize, chips: &[Lengths; 4]) -> bool
+    requires { 0 < k }
+    ensures { result ≡ misfits k cells 0 chips.now }
+{
+    for (chip, lengths) in chips.iter().enumerate() {
+        if is_misfit(share_of(k, chip, cells), *lengths) {
+            return true;
+        }
     }
-    marks != cells
+    false
 }
 
 // Row 21: is this no number of chips, or base or length no multiple of it?
+#[tactic(auto, unfolding(crate::specs::Refusals::row21, crate::specs::Refusals::not_two_or_four))]
 fn is_uneven(k: usize, base: u32, cells: usize) -> bool
     ensures { result ≡ row21 k base cells }
 {
-    if is_wrong(k) {
-        return true;
-    }
-    if base as usize % k != 0 {
-        return true;
-    }
-    cells % k != 0
+    !matches!(k, 2 | 4) || base as usize % k != 0 || cells % k != 0
 }
 
 // Row 1: is the window too long, or do two of the lengths not match?
-fn is_unfit(
-    k: usize,
-    base: u32,
-    memory: usize,
-    marks: usize,
-    memory0: usize,
-    marks0: usize,
-    memory1: usize,
-    marks1: usize,
-    memory2: usize,
-    marks2: usize,
-    memory3: usize,
-    marks3: usize,
-) -> bool
+#[tactic(auto, unfolding(crate::specs::Promises::unfit))]
+fn is_unfit(k: usize, base: u32, whole: Lengths, chips: &[Lengths; 4]) -> bool
     requires { 0 < k }
-    ensures { result ≡ unfit k base memory marks memory0 marks0 memory1 marks1 memory2 marks2 memory3 marks3 }
+    ensures { result ≡ unfit k base whole chips.now }
 {
-    if marks != memory {
-        return true;
-    }
-    if memory > TOP - base as usize {
-        return true;
-    }
-    if is_misfit(share_of(k, 0, memory), memory0, marks0) {
-        return true;
-    }
-    if is_misfit(share_of(k, 1, memory), memory1, marks1) {
-        return true;
-    }
-    if is_misfit(share_of(k, 2, memory), memory2, marks2) {
-        return true;
-    }
-    is_misfit(share_of(k, 3, memory), memory3, marks3)
+    whole.marks != whole.memory
+        || whole.memory > TOP - base as usize
+        || has_misfit(k, whole.memory, chips)
 }
 
-// Rows 21 and 1 by the lengths of the buffers, those of the whole first: the row that applies, or 0.
-pub fn length_row(
-    k: usize,
-    base: u32,
-    memory: usize,
-    marks: usize,
-    memory0: usize,
-    marks0: usize,
-    memory1: usize,
-    marks1: usize,
-    memory2: usize,
-    marks2: usize,
-    memory3: usize,
-    marks3: usize,
-) -> u32
-    ensures { result ≡ length_row k base memory marks memory0 marks0 memory1 marks1 memory2 marks2 memory3 marks3 }
+// Rows 21 and 1, by the lengths of the whole and of the chips.
+#[tactic(auto, unfolding(crate::specs::Promises::lengths_checked))]
+pub fn check_lengths(k: usize, base: u32, whole: Lengths, chips: &[Lengths; 4]) -> Result<(), Fault>
+    ensures { result ≡ lengths_checked k base whole chips.now }
 {
-    if is_uneven(k, base, memory) {
-        return 21;
+    if is_uneven(k, base, whole.memory) {
+        return Err(Fault::Uneven);
     }
-    if is_unfit(
-        k, base, memory, marks, memory0, marks0, memory1, marks1, memory2, marks2, memory3, marks3,
-    ) {
-        return 1;
+    if is_unfit(k, base, whole, chips) {
+        return Err(Fault::Lengths);
     }
-    0
+    Ok(())
+}
+
+// Row 16 of some marks.
+#[tactic(auto, unfolding(crate::specs::Promises::marks_checked))]
+pub fn check_marks(marks: &[u8]) -> Result<(), Fault>
+    ensures { result ≡ marks_checked marks.now }
+{
+    if mark_bytes::has_bad(marks) {
+        return Err(Fault::Mark(mark_bytes::bad_byte(marks)));
+    }
+    Ok(())
 }
 
 // The cells of each chip in the next row, of so many that are left: sixteen, or all in a short last row.
 pub fn row_size(left: usize) -> usize
     ensures { result ≡ min left 16 }
 {
-    if left < ROW {
-        return left;
-    }
-    ROW
-}
-
-// Row 16 of some marks: its refusal, or zeros.
-pub fn bad_row(marks: &[u8]) -> Refusal
-    ensures { result ≡ row16_or marks.now (refusal 0 0 0) }
-{
-    if !mark_bytes::has_bad(marks) {
-        return window::refuse(0, 0, 0);
-    }
-    let place = mark_bytes::bad_byte(marks);
-    window::refuse(16, 0, place)
+    left.min(ROW)
 }

@@ -9,7 +9,6 @@ ghost use Rattle.chips.specs.Calls.{dealt_chip, collected_whole, collect_answer}
 ghost use Rattle.chips_c.specs.Told.{dealt_of, collected_of};
 
 use c_answers::Answer;
-use window::Entry;
 
 // Deals a window over k chips.
 #[unsafe(no_mangle)]
@@ -36,7 +35,7 @@ pub extern "C" fn srec_deal(
     let refusal = deal::deal(
         k, base, memory, marks, memory0, marks0, memory1, marks1, memory2, marks2, memory3, marks3,
     );
-    c_answers::bare_answer(refusal, window::no_header(), Entry::Absent)
+    c_answers::bare_answer(refusal, window::no_header(), None)
 }
 
 // Collects k chips into a window.
@@ -61,8 +60,5 @@ pub extern "C" fn srec_collect(
     let answer = collect::collect(
         k, base, memory, marks, memory0, marks0, memory1, marks1, memory2, marks2, memory3, marks3,
     );
-    let refusal = answer.refusal;
-    let header = answer.header;
-    let entry = answer.entry;
-    c_answers::bare_answer(refusal, header, entry)
+    c_answers::bare_answer(answer.refusal, answer.header, answer.entry)
 }

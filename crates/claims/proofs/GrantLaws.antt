@@ -16,11 +16,16 @@ use Rattle.bits.proofs.PackLaws.{Binary, binary_bits, binary_replicate, binary_o
 use Rattle.marks.specs.declared.Form.{Form}
 use Rattle.marks.specs.declared.Form.TheVariants.{Bytes, Packed}
 use Rattle.marks.specs.Forms.{flags, stored, Tidy}
+use Rattle.claims.specs.declared.Clash.{Clash}
+use Rattle.claims.specs.declared.Clash.TheVariants.{Outside, Marked}
+use Rattle.claims.specs.Answers.{row_of}
 
 -- what `claim` answers, and the marks that it leaves
 abbrev pub Claimed : Form → ℕ → List ℕ → ℕ → ℕ → ℕ → ℕ → List ℕ → Type 0
-Claimed form n ms base a count row ms' = (row ≡ claim_row base (flags form n ms) a count) ×
-    (ms' ≡ stored form (claimed base (flags form n ms) a count))
+Claimed form n ms base a count row ms' = record {
+  answer : row ≡ claim_row base (flags form n ms) a count;
+  marks : ms' ≡ stored form (claimed base (flags form n ms) a count);
+}
 
 module _ (form : Form) (n : ℕ) (ms : List ℕ) (t : Tidy form n ms) (base a count : ℕ) where
   -- what the marks say of each cell
@@ -29,7 +34,7 @@ module _ (form : Form) (n : ℕ) (ms : List ℕ) (t : Tidy form n ms) (base a co
 
   -- the marks stay
   kept : (row : ℕ) → (row ≡ claim_row base own a count) × (own ≡ claimed base own a count) → Claimed form n ms base a count row ms
-  kept row p = (p.0, t.1 ∙ ap (stored form) p.1)
+  kept row p = record { answer = p.0; marks = t.1 ∙ ap (stored form) p.1 }
 
   -- a claim of no cells is granted
   pub no_cells : count ≡ 0 → Claimed form n ms base a count 0 ms
@@ -51,7 +56,12 @@ module _ (form : Form) (n : ℕ) (ms : List ℕ) (t : Tidy form n ms) (base a co
   -- no row: the cells are free, and they are marked
   pub granted : (count ≡ 0 → ⊥) → base ≤ a → a + count ≤ base + n → is_free (take count (drop (a - base) own)) ≡ true
       → (ms' : List ℕ) → ms' ≡ stored form (over own (a - base) (replicate count 1)) → Claimed form n ms base a count 0 ms'
-  granted z l h f ms' e = let r = marks.claim_free base own a count z l (omega (arith, t.0)) f in (r.0, e ∙ ap (stored form) r.1)
+  granted z l h f ms' e = let r = marks.claim_free base own a count z l (omega (arith, t.0)) f in record { answer = r.0; marks = e ∙ ap (stored form) r.1 }
+
+-- a clash stands for a row
+pub clash_row : (clash : Clash) → row_of clash ≡ 0 → ⊥
+clash_row Outside e = omega arith
+clash_row Marked e = omega arith
 
 -- ---- marks behind a claim
 

@@ -5,8 +5,28 @@ ghost use Rattle.std.specs.Prelude.{◌≡◌, ◌-◌, ◌≤◌, length, take,
 ghost use Rattle.lists.specs.Lists.{over};
 ghost use Rattle.window.specs.Marks.{is_free, claim_row, claimed};
 ghost use Rattle.marks.specs.Forms.{flags, mark_bytes, stored, Tidy};
+ghost use Rattle.claims.specs.Answers.{row_of, row_or0};
 
 use marks::Form;
+
+// Why cells cannot be claimed: one lies outside the window (row 12), or one is marked already (row 13).
+#[derive(Clone, Copy)]
+pub enum Clash {
+    Outside,
+    Marked,
+}
+
+impl Clash {
+    // The row's number.
+    pub fn row(self) -> u32
+        ensures { result ≡ row_of self }
+    {
+        match self {
+            Clash::Outside => 12,
+            Clash::Marked => 13,
+        }
+    }
+}
 
 // Is none of the cells from `from` to below `to` marked?
 fn are_free(form: Form, marks: &[u8], cells: usize, from: usize, to: usize) -> bool
@@ -30,7 +50,7 @@ fn mark(form: Form, marks: &mut [u8], cells: usize, from: usize, to: usize)
     }
 }
 
-// Rows 12 and 13 for `count` cells at an address: marks the cells and answers 0, or answers the row and marks nothing.
+// Rows 12 and 13 for `count` cells at an address: marks the cells, or says why not and marks nothing.
 pub fn claim(
     form: Form,
     marks: &mut [u8],
@@ -38,28 +58,28 @@ pub fn claim(
     base: usize,
     address: usize,
     count: usize,
-) -> u32
+) -> Result<(), Clash>
     requires { Tidy form cells marks.old }
-    ensures answer { result ≡ claim_row base (flags form cells marks.old) address count }
+    ensures answer { row_or0 result ≡ claim_row base (flags form cells marks.old) address count }
     ensures marks { marks.new ≡ stored form (claimed base (flags form cells marks.old) address count) }
 {
     if count == 0 {
-        return 0;
+        return Ok(());
     }
     if address < base {
-        return 12;
+        return Err(Clash::Outside);
     }
     let from = address - base;
     if cells < from {
-        return 12;
+        return Err(Clash::Outside);
     }
     if cells - from < count {
-        return 12;
+        return Err(Clash::Outside);
     }
     let to = from + count;
     if !are_free(form, marks, cells, from, to) {
-        return 13;
+        return Err(Clash::Marked);
     }
     mark(form, marks, cells, from, to);
-    0
+    Ok(())
 }

@@ -1,16 +1,18 @@
 -- The answer of a collect, and the whole afterwards: one law for each way out.
 use mathlib.Core.Path.{◌≡◌, refl, sym, ap, ◌∙◌}
+use Rattle.std.specs.Prelude.{Result, Ok, Err}
 use Prim.Native.Nat.{ℕ, ◌/◌, ◌%◌, ◌<◌}
 use native.Mathlib.Omega.{arith}
 use mathlib.Core.Bool.{true}
 use mathlib.Core.List.{List}
 use lib.ListN.{length, get_or}
-use borrow.Author.Tests.{eq-eqb}
 use Rattle.window.specs.declared.Refusal.{Refusal}
 use Rattle.window.specs.Windows.{Window, window_of}
 use Rattle.window.specs.Images.{Image}
 use Rattle.window.specs.Plans.{refusal, passes}
 use Rattle.window.proofs.RowLaws.{allowed_inv}
+use Rattle.chips.specs.declared.Fault.{Fault}
+use Rattle.chips.specs.Promises.{refusal_of, told, marks_checked}
 use Rattle.chips.specs.Boards.{Buffers, Board, buffers_of, chip_at, image_of, received}
 use Rattle.chips.specs.Refusals.{row16_or, collect_refusal}
 use Rattle.chips.specs.Calls.{collected_image, collected_whole}
@@ -20,9 +22,17 @@ use Rattle.chips.proofs.ImageLaws.{image_at}
 use Rattle.chips.proofs.ReceiveLaws.{flag_small}
 use Rattle.chips.proofs.RenewedLaws.{renewed_all}
 use Rattle.chips.proofs.FitLaws.{collect_inv}
-use Rattle.chips.proofs.AnswerLaws.{row_of, row_refuses, row_passes, leaves_old, leaves_image}
+use Rattle.chips.proofs.AnswerLaws.{checked, lengths_told, marks_told, fault_refuses, leaves_old, leaves_image}
 use Rattle.collect_row.specs.Collecting.{Ready, Collects}
 use Rattle.collect_row.proofs.CollectLaws.{ready_even}
+
+-- marks that pass their check leave the answer to what comes behind them
+pub behind : (marks : List ℕ) (r : Result (Unit {0}) Fault) (u : Unit {0}) → r ≡ marks_checked marks → r ≡ Ok u → (next : Refusal) → row16_or marks next ≡ next
+behind marks r u p q next = marks_told marks next ∙ ap (told next) (sym p ∙ q)
+
+-- others decide it
+pub decided : (marks : List ℕ) (r : Result (Unit {0}) Fault) (fault : Fault) → r ≡ marks_checked marks → r ≡ Err fault → (inner next : Refusal) → row16_or marks inner ≡ told next (Err fault)
+decided marks r fault p q inner next = marks_told marks inner ∙ ap (told inner) (sym p ∙ q)
 
 module _ (k base : ℕ) (memory marks : List ℕ) (b : Board) where
   abbrev W : Window
@@ -31,9 +41,9 @@ module _ (k base : ℕ) (memory marks : List ℕ) (b : Board) where
   abbrev own : Buffers
   own = buffers_of memory marks
 
-  -- row 16 of the chips' marks
-  abbrev pub bad_rows : Refusal
-  bad_rows = row16_or b.first.marks (row16_or b.second.marks (row16_or b.third.marks (row16_or b.fourth.marks (refusal 0 0 0))))
+  -- row 16 of the chips' marks, lowest chip first, and behind them `next`
+  abbrev pub chips_or : Refusal → Refusal
+  chips_or next = row16_or b.first.marks (row16_or b.second.marks (row16_or b.third.marks (row16_or b.fourth.marks next)))
 
   -- a refusal, and what it leaves of the whole
   pub record Says (r : Refusal) (new : Buffers) : Type 0 where
@@ -44,25 +54,32 @@ module _ (k base : ℕ) (memory marks : List ℕ) (b : Board) where
   unfolding collected_whole
   stays r e h = record { refuses = e; whole = leaves_old (collect_refusal k W b) r own (collected_image k (length memory) b) e h }
 
-  -- refused by 21 or 1
-  pub refused_by_lengths : (r : Refusal) (row : ℕ) → r ≡ refusal row 0 0 → row ≡ row_of k base memory marks b → (row ≡ 0 → ⊥) → Says r own
+  -- refused by rows 21 and 1
+  pub refused_by_lengths : (r : Refusal) (fault : Fault) → r ≡ refusal_of fault → Err fault ≡ checked k base memory marks b → Says r own
   unfolding collect_refusal
-  refused_by_lengths r row p q h =
-      stays r (p ∙ ap (λ (x : ℕ). refusal x 0 0) q ∙ row_refuses k base memory marks b bad_rows (λ z. h (q ∙ z)))
-      (λ z. h (sym (ap (λ (x : Refusal). x.reason) p) ∙ z))
+  refused_by_lengths r fault p q =
+      let e : refusal_of fault ≡ collect_refusal k W b = ap (told (chips_or (refusal 0 0 0))) q ∙ sym (lengths_told k base memory marks b (chips_or (refusal 0 0 0))) in
+      stays r (p ∙ e) (λ z. fault_refuses fault (sym (ap (λ (x : Refusal). x.reason) p) ∙ z))
 
-  -- behind them the marks decide
-  by_marks : (r : Refusal) → 0 ≡ row_of k base memory marks b → r ≡ bad_rows → r ≡ collect_refusal k W b
-  unfolding collect_refusal
-  by_marks r q p = p ∙ row_passes k base memory marks b bad_rows (sym q)
+  -- behind them the chips' marks decide
+  module _ (q : Ok tt ≡ checked k base memory marks b) (all : Result (Unit {0}) Fault) (m : (next : Refusal) → chips_or next ≡ told next all) where
+    by_marks : told (refusal 0 0 0) all ≡ collect_refusal k W b
+    unfolding collect_refusal
+    by_marks =
+        sym (m (refusal 0 0 0)) ∙ ap (told (chips_or (refusal 0 0 0))) q
+        ∙ sym (lengths_told k base memory marks b (chips_or (refusal 0 0 0)))
 
-  -- refused by 16
-  pub refused_by_marks : (r : Refusal) → 0 ≡ row_of k base memory marks b → r ≡ bad_rows → (r.reason ≡ 0 → ⊥) → Says r own
-  refused_by_marks r q p h = stays r (by_marks r q p) h
+    -- refused by row 16
+    pub refused_by_marks : (r : Refusal) (fault : Fault) → r ≡ refusal_of fault → all ≡ Err fault → Says r own
+    refused_by_marks r fault p e =
+        stays r (p ∙ ap (told (refusal 0 0 0)) (sym e) ∙ by_marks) (λ z. fault_refuses fault (sym (ap (λ (x : Refusal). x.reason) p) ∙ z))
 
-  module _ (r : Refusal) (q : 0 ≡ row_of k base memory marks b) (p : r ≡ bad_rows) (h : r.reason ≡ 0) where
+  module _ (q : Ok tt ≡ checked k base memory marks b) (m : (next : Refusal) → chips_or next ≡ next) where
+    answers : refusal 0 0 0 ≡ collect_refusal k W b
+    answers = by_marks q (Ok tt) m
+
     passed : passes (collect_refusal k W b) ≡ true
-    passed = rw (← by_marks r q p) (eq-eqb r.reason 0 h)
+    passed = rw (← answers) refl
 
     -- what the functions over rows ask for
     pub ready : Ready k own b
@@ -89,8 +106,11 @@ module _ (k base : ℕ) (memory marks : List ℕ) (b : Board) where
         (λ i l. flag_small (chip_at b (i % k)).marks (i / k) (ready.clean (i % k) (omega (arith, e.chip i, at_most_four k ready.count))))
 
     -- collected
-    pub accepted : (new : Buffers) → Collects k b 0 (length memory) own new → Says r new
+    pub accepted : (r : Refusal) → r ≡ refusal 0 0 0 → (new : Buffers) → Collects k b 0 (length memory) own new → Says r new
     unfolding collected_whole
-    accepted new x =
-        let e = by_marks r q p in
-        record { refuses = e; whole = collected_all new x ∙ leaves_image (collect_refusal k W b) r own (collected_image k (length memory) b) e h }
+    accepted r p new x =
+        let e = p ∙ answers in
+        record {
+          refuses = e;
+          whole = collected_all new x ∙ leaves_image (collect_refusal k W b) r own (collected_image k (length memory) b) e (ap (λ (f : Refusal). f.reason) p);
+        }

@@ -28,10 +28,8 @@ pub fn collect_row(
     let end = k * (at + size);
     let cells = blocks::rows_at(memory0, memory1, memory2, memory3, k, at, size);
     let flags = blocks::rows_at(marks0, marks1, marks2, marks3, k, at, size);
-    let blocks = blocks::blocks_of(&cells, &flags, k, size);
-    let block = blocks[0];
-    let marked = blocks[1];
-    receiving::receive_rows(
+    let (block, marked) = blocks::blocks_of(&cells, &flags, k, size);
+    receiving::receive_row(
         &mut memory[from..end],
         &mut marks[from..end],
         &block,

@@ -1,15 +1,15 @@
 -- What the answers of a load and of a write say of the whole: one law for each way out of `convert`.
 use mathlib.Core.Path.{◌≡◌, refl, sym, ap, ◌∙◌, subst}
-use Prim.Native.Nat.{ℕ, ◌-◌, ◌≤◌, ◌<◌, zero-le}
+use Prim.Native.Nat.{ℕ, ◌<◌}
 use native.Mathlib.Omega.{arith}
 use mathlib.Core.Bool.{cond}
 use mathlib.Core.List.{List}
 use lib.Dec.{lit<}
-use lib.ListN.{length, take, replicate, length-append}
+use lib.ListN.{length, take}
 use Rattle.window.specs.declared.Refusal.{Refusal}
 use Rattle.window.specs.Windows.{Window, row1, row16, window_of}
 use Rattle.window.specs.Images.{Image}
-use Rattle.window.specs.declared.Entry.{Entry}
+use Rattle.window.specs.Entries.{Entry}
 use Rattle.window.specs.Plans.{Summary, Outcome, refusal}
 use Rattle.window.specs.Plans.Outcome.{refused, accepted}
 use Rattle.lists.proofs.TestLaws.{Of, either}
@@ -27,8 +27,7 @@ use Rattle.formats.specs.declared.Format.{Format as Choice}
 use Rattle.formats.specs.declared.Format.TheVariants.{Records, Tape}
 use Rattle.formats.specs.Choices.{format_of}
 use Rattle.formats.proofs.ChoiceLaws.{limits_of, lawful_of}
-use Rattle.convert.specs.declared.Converted.{Converted}
-use Rattle.convert.specs.declared.Converted.TheVariants.{Refused, Text}
+use Rattle.std.specs.Prelude.{Result, Ok, Err}
 use Rattle.convert.specs.Conversions.{converted_by, output_by, converted, output_of}
 
 -- a refused write has a reason
@@ -50,14 +49,6 @@ write_reasoned (Tape edition) W h e room =
     either (row1 W) (record { got = lit< tt }) (either (row16 W.marks) (record { got = lit< tt }) (either (row19 h e) (record { got = lit< tt })
     (either (row11_marks W) (record { got = lit< tt }) (last (text_of (tape edition) W h e) room))))
 
--- a header's length is within its bytes
-pub header_fits : (F : Format) (W : Window) (text : List ℕ) → (loaded F W text).header.len ≤ length (loaded F W text).header.bytes
-header_fits F W text = go (load W (plan F text))
-  where
-    go : (o : Outcome) → (load_answer o).header.len ≤ length (load_answer o).header.bytes
-    go (refused f) = zero-le
-    go (accepted s img) = omega (arith, length-append s.header (replicate (252 - length s.header) 0))
-
 -- the write behind a load is given what the load returned and left
 pub written_is : (F : Format) (W : Window) (text : List ℕ) (room : ℕ) (l : Loaded) (m ms : List ℕ) → l ≡ loaded F W text
     → m ≡ memory_after W.memory (load W (plan F text))
@@ -72,21 +63,21 @@ module _ (format : Choice) (W : Window) (text out : List ℕ) where
   F = format_of format
 
   -- the answer and the output of a conversion
-  abbrev pub Answers : Converted → List ℕ → Type 0
+  abbrev pub Answers : Result ℕ Refusal → List ℕ → Type 0
   Answers r out' = (r ≡ converted F W text (length out)) × (out' ≡ output_of F out W text)
 
   -- the load's refusal is the answer, and nothing is written
-  pub load_refused : (f : Refusal) → f ≡ (loaded F W text).refusal → (f.reason ≡ 0 → ⊥) → Answers (Refused f) out
+  pub load_refused : (f : Refusal) → f ≡ (loaded F W text).refusal → (f.reason ≡ 0 → ⊥) → Answers (Err f) out
   load_refused f e z = go (load W (plan F text)) e
     where
       go : (o : Outcome) → f ≡ (load_answer o).refusal
-          → (Refused f ≡ converted_by o (written_after F W text (length out))) × (out ≡ output_by out o (written_after F W text (length out)))
-      go (refused g) q = (ap Refused q, refl)
+          → (Err f ≡ converted_by o (written_after F W text (length out))) × (out ≡ output_by out o (written_after F W text (length out)))
+      go (refused g) q = (ap Err q, refl)
       go (accepted s img) q = absurd (z (ap (λ (x : Refusal). x.reason) q))
 
   module _ (a : Accepted F W text) (w : WriteOutcome) (is : w ≡ written_after F W text (length out)) where
     -- behind an accepted load the write decides
-    by_write : (r : Converted) (out' : List ℕ) → ((s : Summary) (img : Image) → r ≡ converted_by (accepted s img) w)
+    by_write : (r : Result ℕ Refusal) (out' : List ℕ) → ((s : Summary) (img : Image) → r ≡ converted_by (accepted s img) w)
         → out' ≡ output_after out w → Answers r out'
     by_write r out' q m =
         let l : (s : Summary) × (img : Image) × (load W (plan F text) ≡ accepted s img) = accepted_is F (limits_of format) (lawful_of format) W text a in
@@ -94,19 +85,19 @@ module _ (format : Choice) (W : Window) (text out : List ℕ) where
 
     -- the write's refusal is the answer
     pub write_refused : (f : Refusal) (out' : List ℕ) → f ≡ (write_answer w).refusal → (f.reason ≡ 0 → ⊥) → out' ≡ output_after out w
-        → Answers (Refused f) out'
-    write_refused f out' e z m = by_write (Refused f) out' (λ s img. go s img w e) m
+        → Answers (Err f) out'
+    write_refused f out' e z m = by_write (Err f) out' (λ s img. go s img w e) m
       where
-        go : (s : Summary) (img : Image) (x : WriteOutcome) → f ≡ (write_answer x).refusal → Refused f ≡ converted_by (accepted s img) x
-        go s img (declined g) q = ap Refused q
+        go : (s : Summary) (img : Image) (x : WriteOutcome) → f ≡ (write_answer x).refusal → Err f ≡ converted_by (accepted s img) x
+        go s img (declined g) q = ap Err q
         go s img (wrote t) q = absurd (z (ap (λ (x : Refusal). x.reason) q))
 
     -- the text's length is the answer
     pub text_written : (n : ℕ) (out' : List ℕ) → (write_answer w).refusal.reason ≡ 0 → n ≡ (write_answer w).length → out' ≡ output_after out w
-        → Answers (Text n) out'
-    text_written n out' z e m = by_write (Text n) out' (λ s img. go s img w z e (subst Reasoned (sym is) (write_reasoned format _ _ _ (length out)).got)) m
+        → Answers (Ok n) out'
+    text_written n out' z e m = by_write (Ok n) out' (λ s img. go s img w z e (subst Reasoned (sym is) (write_reasoned format _ _ _ (length out)).got)) m
       where
         go : (s : Summary) (img : Image) (x : WriteOutcome) → (write_answer x).refusal.reason ≡ 0 → n ≡ (write_answer x).length → Reasoned x
-            → Text n ≡ converted_by (accepted s img) x
+            → Ok n ≡ converted_by (accepted s img) x
         go s img (declined g) q l r = absurd (omega arith)
-        go s img (wrote t) q l r = ap Text l
+        go s img (wrote t) q l r = ap Ok l

@@ -1,5 +1,5 @@
 -- A text loaded and written again: what is answered, and the output afterwards.
-use Rattle.std.specs.Prelude.{ℕ, List, length}
+use Rattle.std.specs.Prelude.{ℕ, List, length, Result, Ok, Err}
 use Rattle.window.specs.Windows.{Window}
 use Rattle.window.specs.Plans.{Outcome}
 use Rattle.window.specs.Plans.Outcome.{refused, accepted}
@@ -8,14 +8,13 @@ use Rattle.text.specs.Write.{WriteOutcome, output_after}
 use Rattle.text.specs.Write.WriteOutcome.{declined, wrote}
 use Rattle.text.specs.Terms.{written_after}
 use Rattle.text.specs.Formats.{Format, plan}
-use Rattle.convert.specs.declared.Converted.{Converted}
-use Rattle.convert.specs.declared.Converted.TheVariants.{Refused, Text}
+use Rattle.window.specs.declared.Refusal.{Refusal}
 
 -- the load's refusal, or the write's, or the text's length
-abbrev pub converted_by : Outcome → WriteOutcome → Converted
-converted_by (refused f) w = Refused f
-converted_by (accepted s img) (declined f) = Refused f
-converted_by (accepted s img) (wrote text) = Text (length text)
+abbrev pub converted_by : Outcome → WriteOutcome → Result ℕ Refusal
+converted_by (refused f) w = Err f
+converted_by (accepted s img) (declined f) = Err f
+converted_by (accepted s img) (wrote text) = Ok (length text)
 
 -- nothing is written behind a refused load
 abbrev pub output_by : List ℕ → Outcome → WriteOutcome → List ℕ
@@ -23,7 +22,7 @@ output_by out (refused f) w = out
 output_by out (accepted s img) w = output_after out w
 
 -- for a window and a text of a format, with room for so many characters
-abbrev pub converted : Format → Window → List ℕ → ℕ → Converted
+abbrev pub converted : Format → Window → List ℕ → ℕ → Result ℕ Refusal
 converted F W text room = converted_by (load W (plan F text)) (written_after F W text room)
 
 -- the output after that

@@ -12,14 +12,8 @@ use formats::Format;
 use marks::Form;
 use window::Refusal;
 
-// The refusal of the load or of the write, or the length of the canonical text.
-#[derive(Clone, Copy)]
-pub enum Converted {
-    Refused(Refusal),
-    Text(usize),
-}
-
-// Loads a text into a window, as `load_as` does, and writes what it left to the output.
+// Loads a text into a window, as `load_as` does, and writes what it left to the output: the length of the canonical text, or the refusal
+// of the load or of the write.
 pub fn convert(
     format: Format,
     base: u32,
@@ -27,25 +21,20 @@ pub fn convert(
     memory: &mut [u8],
     marks: &mut [u8],
     out: &mut [u8],
-) -> Converted
+) -> Result<usize, Refusal>
     ensures answer { result ≡ converted (format_of format) (window_of base memory.old marks.old) text.now (length out.old) }
     ensures memory { memory.new ≡ memory_after memory.old (load (window_of base memory.old marks.old) (plan (format_of format) text.now)) }
     ensures marks { marks.new ≡ marks_after marks.old (load (window_of base memory.old marks.old) (plan (format_of format) text.now)) }
     ensures output { out.new ≡ output_of (format_of format) out.old (window_of base memory.old marks.old) text.now }
 {
     let loaded = loader::load_as(format, Form::Bytes, text, base, memory, marks);
-    let refusal = loaded.refusal;
-    if refusal.reason != 0 {
-        return Converted::Refused(refusal);
+    if loaded.refusal.reason != 0 {
+        return Err(loaded.refusal);
     }
-    let header = loaded.header;
-    let bytes = header.bytes;
-    let len = header.len;
-    let entry = loaded.entry;
-    let written = writer::write(format, base, memory, marks, &bytes[..len], entry, out);
-    let declined = written.refusal;
-    if declined.reason != 0 {
-        return Converted::Refused(declined);
+    let header = &loaded.header.bytes[..loaded.header.len];
+    let written = writer::write(format, base, memory, marks, header, loaded.entry, out);
+    if written.refusal.reason != 0 {
+        return Err(written.refusal);
     }
-    Converted::Text(written.length)
+    Ok(written.length)
 }

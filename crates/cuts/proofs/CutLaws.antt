@@ -4,8 +4,9 @@ use Prim.Native.Nat.{ℕ, zero, suc, ◌+◌, ◌-◌, ◌≤◌, ◌<◌, min, 
 use native.Mathlib.Nat.{zero-min, min-zero, suc-min-suc}
 use native.Mathlib.Omega.{arith}
 use mathlib.Core.List.{List, [], ◌∷◌, ◌++◌}
-use lib.ListN.{length, take, drop, length-drop, drop_of_length-le, take-append-drop}
-use lib.Seq.{drop-drop}
+use lib.ListN.{length, take, drop, length-drop, take-append-drop}
+use Rattle.std.proofs.Common.{length-append}
+use Rattle.std.proofs.Math.Seq.{take-append_seam, drop-append_seam}
 use Rattle.lists.proofs.PartLaws.{take_least}
 use Rattle.lists.proofs.TestLaws.{by_test}
 use Rattle.window.specs.Windows.{Window, window_of, row1}
@@ -70,59 +71,50 @@ parts_first k n (x ∷ xs) h = refl
 -- ---- the loop
 
 module _ (base size : ℕ) (text : List ℕ) (first : Stage) where
-  -- the stage behind the characters up to a place: with the parts of the others it comes to what all parts come to
-  pub record Behind (at : ℕ) (w : Stage) : Type 0 where
+  -- the stage before the characters that are left: with their parts it comes to what all parts come to
+  pub record Behind (rest : List ℕ) (w : Stage) : Type 0 where
     pub left : ℕ
-    pub enough : length text - at ≤ left
-    pub whole : feeds base w (parts_up_to left size (drop at text)) ≡ feeds base first (parts_up_to (length text) size text)
+    pub enough : length rest ≤ left
+    pub whole : feeds base w (parts_up_to left size rest) ≡ feeds base first (parts_up_to (length text) size text)
 
   -- before all characters
-  pub behind_none : Behind 0 first
-  behind_none = record { left = length text; enough = omega arith; whole = refl }
+  pub behind_none : (rest : List ℕ) → rest ≡ text → Behind rest first
+  behind_none rest e = subst (λ (l : List ℕ). Behind l first) (sym e) (record { left = length text; enough = omega arith; whole = refl })
 
   -- behind one part more
-  pub behind_part : (at end : ℕ) (w : Stage) → 0 < size → at < length text → end ≡ at + min size (length text - at) → Behind at w
-      → Behind end (feed base w (take (end - at) (drop at text)))
-  behind_part at end w some h e b = go b.left b.enough b.whole
+  pub behind_part : (all part rest : List ℕ) (w : Stage) → 0 < size → all ≡ part ++ rest → length part ≡ min size (length all) → 0 < length all → Behind all w
+      → Behind rest (feed base w part)
+  behind_part all part rest w some e long h b = go b.left b.enough b.whole
     where
-      rest : List ℕ
-      rest = drop at text
+      part_is : take size all ≡ part
+      part_is = sym (take_least size all) ∙ ap (λ (n : ℕ). take n all) (sym long) ∙ ap (λ (l : List ℕ). take (length part) l) e ∙ take-append_seam part rest
 
-      long : length rest ≡ length text - at
-      long = length-drop at text
+      rest_is : drop size all ≡ rest
+      rest_is = sym (drop_least size all) ∙ ap (λ (n : ℕ). drop n all) (sym long) ∙ ap (λ (l : List ℕ). drop (length part) l) e ∙ drop-append_seam part rest
 
-      wide : end - at ≡ min size (length rest)
-      wide = rw long (omega arith)
+      lengths : length all ≡ length part + length rest
+      lengths = ap (λ (l : List ℕ). length l) e ∙ length-append part rest
 
-      behind : end ≡ at + min size (length rest)
-      behind = rw long e
-
-      part_is : take (end - at) rest ≡ take size rest
-      part_is = ap (λ (n : ℕ). take n rest) wide ∙ take_least size rest
-
-      rest_is : drop end text ≡ drop size rest
-      rest_is = ap (λ (n : ℕ). drop n text) behind ∙ sym (drop-drop (min size (length rest)) at text) ∙ drop_least size rest
-
-      go : (k : ℕ) → length text - at ≤ k → feeds base w (parts_up_to k size rest) ≡ feeds base first (parts_up_to (length text) size text)
-          → Behind end (feed base w (take (end - at) rest))
+      go : (k : ℕ) → length all ≤ k → feeds base w (parts_up_to k size all) ≡ feeds base first (parts_up_to (length text) size text)
+          → Behind rest (feed base w part)
       go zero n q = absurd (omega arith)
       go (suc k) n q =
           record {
             left = k;
-            enough = omega arith;
-            whole = rw (part_is, rest_is) (sym (ap (feeds base w) (parts_first k size rest (omega (arith, long)))) ∙ q);
+            enough = omega (arith, lengths, long);
+            whole = rw (← part_is, ← rest_is) (sym (ap (feeds base w) (parts_first k size all h)) ∙ q);
           }
 
   -- the same of the state and the buffers that a call left
-  pub behind_fed : (at end : ℕ) (w : Stage) (x : Status) (memory marks : List ℕ) → 0 < size → at < length text → end ≡ at + min size (length text - at) → Behind at w
-      → x ≡ (feed base w (take (end - at) (drop at text))).status → memory ≡ (feed base w (take (end - at) (drop at text))).memory
-      → marks ≡ (feed base w (take (end - at) (drop at text))).marks → Behind end (stage x memory marks)
-  behind_fed at end w x memory marks some h e b p q r =
-      subst (Behind end) (sym (stage_is p q r)) (behind_part at end w some h e b)
+  pub behind_fed : (all part rest : List ℕ) (w : Stage) (x : Status) (memory marks : List ℕ) → 0 < size → all ≡ part ++ rest → length part ≡ min size (length all)
+      → 0 < length all → Behind all w → x ≡ (feed base w part).status → memory ≡ (feed base w part).memory → marks ≡ (feed base w part).marks
+      → Behind rest (stage x memory marks)
+  behind_fed all part rest w x memory marks some e long h b p q r = subst (Behind rest) (sym (stage_is p q r)) (behind_part all part rest w some e long h b)
 
   -- behind all characters
-  pub behind_all : (at : ℕ) (w : Stage) → length text ≤ at → Behind at w → w ≡ feeds base first (parts_up_to (length text) size text)
-  behind_all at w h b = sym (ap (feeds base w) (ap (parts_up_to b.left size) (drop_of_length-le text h) ∙ parts_none b.left size)) ∙ b.whole
+  pub behind_all : (rest : List ℕ) (w : Stage) → length rest ≡ 0 → Behind rest w → w ≡ feeds base first (parts_up_to (length text) size text)
+  behind_all [] w h b = sym (ap (feeds base w) (parts_none b.left size)) ∙ b.whole
+  behind_all (x ∷ xs) w h b = absurd (omega arith)
 
 -- ---- the calls
 

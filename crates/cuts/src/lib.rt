@@ -1,7 +1,7 @@
 // A text loaded in parts of equal length, for the benchmark and for tests in C. include/srec.h does not declare it.
 #![tactic(auto)]
 
-ghost use Rattle.std.specs.Prelude.{◌≡◌, ◌<◌, max, length};
+ghost use Rattle.std.specs.Prelude.{◌≡◌, ◌<◌, length};
 ghost use Rattle.window.specs.Windows.{window_of};
 ghost use Rattle.parts.specs.Parts.{stage};
 ghost use Rattle.parts.specs.Agreement.{feeds, in_parts};
@@ -10,13 +10,6 @@ ghost use Rattle.session.specs.Sessions.{status_of};
 ghost use Rattle.cuts.specs.Cuts.{parts_up_to, parts_of};
 
 use session::Session;
-
-// A number, or 1 where it is 0.
-fn at_least_one(n: usize) -> usize
-    ensures { result ≡ max n 1 }
-{
-    if n == 0 { 1 } else { n }
-}
 
 // Feeds a text in parts of so many characters each; the last may be shorter.
 fn feed_parts(
@@ -34,11 +27,8 @@ fn feed_parts(
     ensures form { result.form ≡ Bytes }
 {
     let mut s = session;
-    let mut at = 0;
-    while at < text.len() {
-        let end = at + marks::smaller(size, text.len() - at);
-        s = feed::feed(s, &text[at..end], base, memory, marks);
-        at = end;
+    for part in text.chunks(size) {
+        s = feed::feed(s, part, base, memory, marks);
     }
     s
 }
@@ -56,11 +46,7 @@ pub extern "C" fn srec_load_cut(
     ensures memory { memory.new ≡ (in_parts (window_of base memory.old marks.old) (parts_of cut text.now)).memory }
     ensures marks { marks.new ≡ (in_parts (window_of base memory.old marks.old) (parts_of cut text.now)).marks }
 {
-    let size = at_least_one(cut);
     let begun = begin::begin(base, memory, marks);
-    let fed = feed_parts(begun, text, size, base, memory, marks);
-    let ended = end::end(fed, base, memory, marks);
-    let loaded = ended.loaded;
-    let refusal = loaded.refusal;
-    refusal.reason
+    let fed = feed_parts(begun, text, cut.max(1), base, memory, marks);
+    end::end(fed, base, memory, marks).loaded.refusal.reason
 }

@@ -83,10 +83,6 @@ pub data_at : (format : Format) (chars : List ℕ) (j : ℕ) → j < length (byt
 data_at Records chars j h = pair_at chars (start_of Records chars) (bytes_in (carried (read chars))) j (record_digits chars (read chars) refl (omega arith)) h
 data_at (Tape edition) chars j h = pair_at chars 7 (bytes_in (carriedLine (readLine chars))) j (tape_digits chars (readLine chars) refl (omega arith)) h
 
--- the start for the chosen format is that of the format
-pub start_chosen : (format choice : Format) → format ≡ choice → (chars : List ℕ) (r : ℕ) → r ≡ start_of choice chars → r ≡ start_of format chars
-start_chosen format choice e chars r q = q ∙ ap (λ (x : Format). start_of x chars) (sym e)
-
 -- data stands behind the first two characters
 pub start_least : (format : Format) (chars : List ℕ) → 4 ≤ start_of format chars
 start_least Records chars = omega arith

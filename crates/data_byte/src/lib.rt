@@ -2,11 +2,11 @@
 #![tactic(auto)]
 
 ghost use Rattle.std.specs.Prelude.{◌≡◌, ◌≤◌, ◌<◌, length, get_or};
-ghost use Rattle.hex_digits.specs.Tables.{digit_table};
 ghost use Rattle.formats.specs.Choices.{format_of};
 ghost use Rattle.data_byte.specs.Places.{bytes_in, start_of};
 
 use formats::Format;
+use hex_read::DigitTable;
 
 // Where the data of a tape's line stands: behind ; and the pairs of its length and address.
 const LINE_DATA: usize = 7;
@@ -23,10 +23,10 @@ fn start_of(format: Format, chars: &[u8]) -> usize
 }
 
 // The data byte with an index, of a line that has it.
-pub fn byte_at(format: Format, table: &[u32; 256], chars: &[u8], index: usize) -> u8
-    requires { (table.now ≡ digit_table) × (index < length (bytes_in ((format_of format).part chars.now))) }
+pub fn byte_at(format: Format, table: &DigitTable, chars: &[u8], index: usize) -> u8
+    requires { index < length (bytes_in ((format_of format).part chars.now)) }
     ensures { result ≡ get_or (bytes_in ((format_of format).part chars.now)) index 0 }
 {
     let at = start_of(format, chars) + 2 * index;
-    hex_read::byte_of(table, chars[at], chars[at + 1])
+    table.byte_of(chars[at], chars[at + 1])
 }

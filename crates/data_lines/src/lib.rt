@@ -9,6 +9,7 @@ ghost use Rattle.marks.specs.Forms.{mark_bytes, plain};
 ghost use Rattle.data_lines.specs.Pieces.{run_text, data_text};
 
 use formats::Format;
+use hex_write::PairTable;
 use marks::Form;
 
 // The types S1 to S3 of data records go up with their address bytes, 2 to 4.
@@ -53,7 +54,7 @@ pub fn put_cells(
     ensures value { result ≡ start + length (data_text format width (shown (plain form (window_of base memory.now marks.now)))) }
     ensures out_after { out.new ≡ over out.old start (data_text format width (shown (plain form (window_of base memory.now marks.now)))) }
 {
-    let table = hex_write::pair_table();
+    let table = PairTable::new();
     let mut at = start;
     let cells = memory.len();
     let mut from = runs::next_marked(form, marks, cells, 0);

@@ -1,16 +1,18 @@
 -- The answer of a deal, and the chips afterwards: one law for each way out.
-use mathlib.Core.Path.{◌≡◌, sym, ap, ◌∙◌}
+use mathlib.Core.Path.{◌≡◌, refl, sym, ap, ◌∙◌}
+use Rattle.std.specs.Prelude.{Ok, Err}
 use Prim.Native.Nat.{ℕ, ◌+◌, ◌*◌, ◌/◌, ◌<◌}
 use native.Mathlib.Omega.{arith}
 use mathlib.Core.Bool.{true}
 use mathlib.Core.List.{List}
 use lib.ListN.{length, get_or}
-use borrow.Author.Tests.{eq-eqb}
 use Rattle.window.specs.declared.Refusal.{Refusal}
 use Rattle.window.specs.Windows.{Window, window_of}
 use Rattle.window.specs.Images.{image}
 use Rattle.window.specs.Plans.{refusal, passes}
 use Rattle.window.proofs.RowLaws.{allowed_inv}
+use Rattle.chips.specs.declared.Fault.{Fault}
+use Rattle.chips.specs.Promises.{refusal_of, told, marks_checked}
 use Rattle.chips.specs.Shares.{share}
 use Rattle.chips.specs.Boards.{Board, chip_at, received}
 use Rattle.chips.specs.Refusals.{row16_or, deal_refusal}
@@ -20,7 +22,7 @@ use Rattle.chips.proofs.ImageLaws.{length_image, image_at}
 use Rattle.chips.proofs.ReceiveLaws.{flag_small}
 use Rattle.chips.proofs.RenewedLaws.{renewed_all}
 use Rattle.chips.proofs.FitLaws.{deal_inv}
-use Rattle.chips.proofs.AnswerLaws.{row_of, row_refuses, row_passes, leaves_old, leaves_image}
+use Rattle.chips.proofs.AnswerLaws.{checked, lengths_told, marks_told, fault_refuses, leaves_old, leaves_image}
 use Rattle.deal_row.specs.Dealing.{Ready, Dealt}
 use Rattle.deal_row.proofs.DealLaws.{ready_even}
 
@@ -37,25 +39,32 @@ module _ (k base : ℕ) (memory marks : List ℕ) (b : Board) where
   unfolding dealt_chip
   stays r e h = record { answer = e; chips = λ c u. leaves_old (deal_refusal k W b) r (chip_at b c) (dealt_image k W c) e h }
 
-  -- refused by 21 or 1
-  pub refused_by_lengths : (r : Refusal) (row : ℕ) → r ≡ refusal row 0 0 → row ≡ row_of k base memory marks b → (row ≡ 0 → ⊥) → Says r b
+  -- refused by rows 21 and 1
+  pub refused_by_lengths : (r : Refusal) (fault : Fault) → r ≡ refusal_of fault → Err fault ≡ checked k base memory marks b → Says r b
   unfolding deal_refusal
-  refused_by_lengths r row p q h =
-      stays r (p ∙ ap (λ (x : ℕ). refusal x 0 0) q ∙ row_refuses k base memory marks b (row16_or marks (refusal 0 0 0)) (λ z. h (q ∙ z)))
-      (λ z. h (sym (ap (λ (x : Refusal). x.reason) p) ∙ z))
+  refused_by_lengths r fault p q =
+      let e : refusal_of fault ≡ deal_refusal k W b = ap (told (row16_or marks (refusal 0 0 0))) q ∙ sym (lengths_told k base memory marks b (row16_or marks (refusal 0 0 0))) in
+      stays r (p ∙ e) (λ z. fault_refuses fault (sym (ap (λ (x : Refusal). x.reason) p) ∙ z))
 
   -- behind them the marks decide
-  by_marks : (r : Refusal) → 0 ≡ row_of k base memory marks b → r ≡ row16_or marks (refusal 0 0 0) → r ≡ deal_refusal k W b
-  unfolding deal_refusal
-  by_marks r q p = p ∙ row_passes k base memory marks b (row16_or marks (refusal 0 0 0)) (sym q)
+  module _ (q : Ok tt ≡ checked k base memory marks b) where
+    by_marks : told (refusal 0 0 0) (marks_checked marks) ≡ deal_refusal k W b
+    unfolding deal_refusal
+    by_marks =
+        sym (marks_told marks (refusal 0 0 0)) ∙ ap (told (row16_or marks (refusal 0 0 0))) q
+        ∙ sym (lengths_told k base memory marks b (row16_or marks (refusal 0 0 0)))
 
-  -- refused by 16
-  pub refused_by_marks : (r : Refusal) → 0 ≡ row_of k base memory marks b → r ≡ row16_or marks (refusal 0 0 0) → (r.reason ≡ 0 → ⊥) → Says r b
-  refused_by_marks r q p h = stays r (by_marks r q p) h
+    -- refused by row 16
+    pub refused_by_marks : (r : Refusal) (fault : Fault) → r ≡ refusal_of fault → Err fault ≡ marks_checked marks → Says r b
+    refused_by_marks r fault p m =
+        stays r (p ∙ ap (told (refusal 0 0 0)) m ∙ by_marks) (λ z. fault_refuses fault (sym (ap (λ (x : Refusal). x.reason) p) ∙ z))
 
-  module _ (r : Refusal) (q : 0 ≡ row_of k base memory marks b) (p : r ≡ row16_or marks (refusal 0 0 0)) (h : r.reason ≡ 0) where
+  module _ (q : Ok tt ≡ checked k base memory marks b) (m : Ok tt ≡ marks_checked marks) where
+    answers : refusal 0 0 0 ≡ deal_refusal k W b
+    answers = ap (told (refusal 0 0 0)) m ∙ by_marks q
+
     passed : passes (deal_refusal k W b) ≡ true
-    passed = rw (← by_marks r q p) (eq-eqb r.reason 0 h)
+    passed = rw (← answers) refl
 
     -- what the functions over rows ask for
     pub ready : Ready k memory marks b
@@ -79,8 +88,8 @@ module _ (k base : ℕ) (memory marks : List ℕ) (b : Board) where
         (λ i h. flag_small marks (k * i + c) ready.clean)
 
     -- dealt
-    pub accepted : (d : Board) → Dealt k memory marks 0 (length memory / k) b d → Says r d
+    pub accepted : (r : Refusal) → r ≡ refusal 0 0 0 → (d : Board) → Dealt k memory marks 0 (length memory / k) b d → Says r d
     unfolding dealt_chip
-    accepted d x =
-        let e = by_marks r q p in
-        record { answer = e; chips = λ c u. dealt_all d x c u ∙ leaves_image (deal_refusal k W b) r (chip_at b c) (dealt_image k W c) e h }
+    accepted r p d x =
+        let e = p ∙ answers in
+        record { answer = e; chips = λ c u. dealt_all d x c u ∙ leaves_image (deal_refusal k W b) r (chip_at b c) (dealt_image k W c) e (ap (λ (f : Refusal). f.reason) p) }

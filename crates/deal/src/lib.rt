@@ -8,6 +8,7 @@ ghost use Rattle.chips.specs.Refusals.{deal_refusal};
 ghost use Rattle.chips.specs.Calls.{dealt_chip};
 ghost use Rattle.deal_row.specs.Dealing.{Ready, Dealt};
 
+use chips::{Lengths, ROW};
 use window::Refusal;
 
 // Deals all rows, the last one of as many cells a chip as are left.
@@ -28,14 +29,12 @@ fn deal_rows(
     ensures { Dealt k memory.now marks.now 0 (length memory.now / k) (board_of memory0.old marks0.old memory1.old marks1.old memory2.old marks2.old memory3.old marks3.old) (board_of memory0.new marks0.new memory1.new marks1.new memory2.new marks2.new memory3.new marks3.new) }
 {
     let cells = memory.len() / k;
-    let mut at: usize = 0;
-    while at < cells {
+    for at in (0..cells).step_by(ROW) {
         let size = chips::row_size(cells - at);
         deal_row::deal_row(
             k, at, size, memory, marks, memory0, marks0, memory1, marks1, memory2, marks2, memory3,
             marks3,
         );
-        at += size;
     }
 }
 
@@ -61,29 +60,20 @@ pub fn deal(
     ensures chip2 { buffers_of memory2.new marks2.new ≡ dealt_chip k (window_of base memory.now marks.now) (board_of memory0.old marks0.old memory1.old marks1.old memory2.old marks2.old memory3.old marks3.old) 2 }
     ensures chip3 { buffers_of memory3.new marks3.new ≡ dealt_chip k (window_of base memory.now marks.now) (board_of memory0.old marks0.old memory1.old marks1.old memory2.old marks2.old memory3.old marks3.old) 3 }
 {
-    let row = chips::length_row(
-        k,
-        base,
-        memory.len(),
-        marks.len(),
-        memory0.len(),
-        marks0.len(),
-        memory1.len(),
-        marks1.len(),
-        memory2.len(),
-        marks2.len(),
-        memory3.len(),
-        marks3.len(),
-    );
-    if row != 0 {
-        return window::refuse(row, 0, 0);
+    let chips = [
+        Lengths::of(memory0, marks0),
+        Lengths::of(memory1, marks1),
+        Lengths::of(memory2, marks2),
+        Lengths::of(memory3, marks3),
+    ];
+    if let Err(fault) = chips::check_lengths(k, base, Lengths::of(memory, marks), &chips) {
+        return fault.refusal();
     }
-    let bad = chips::bad_row(marks);
-    if bad.reason != 0 {
-        return bad;
+    if let Err(fault) = chips::check_marks(marks) {
+        return fault.refusal();
     }
     deal_rows(
         k, memory, marks, memory0, marks0, memory1, marks1, memory2, marks2, memory3, marks3,
     );
-    bad
+    window::refuse(0, 0, 0)
 }

@@ -47,9 +47,7 @@ pub fn deal_row(
 {
     let from = k * at;
     let end = k * (at + size);
-    let rows = rows::rows_of(&memory[from..end], &marks[from..end], k, size);
-    let cells = rows[0];
-    let flags = rows[1];
+    let (cells, flags) = rows::rows_of(&memory[from..end], &marks[from..end], k, size);
     put_row(memory0, marks0, at, size, &cells[0], &flags[0]);
     put_row(memory1, marks1, at, size, &cells[1], &flags[1]);
     put_row(memory2, marks2, at, size, &cells[2], &flags[2]);

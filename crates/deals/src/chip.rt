@@ -1,6 +1,7 @@
 // The buffers of a chip, or of the whole, as the lines of a case set them.
 ghost use Rattle.std.specs.Prelude.{◌≡◌};
-ghost use Rattle.hex_digits.specs.Tables.{digit_table};
+
+use hex_read::DigitTable;
 
 // A memory or marks have at most so many bytes.
 pub const ROOM: usize = 200;
@@ -25,7 +26,7 @@ pub fn empty() -> Chip {
 
 // So many bytes of a buffer, or all of them.
 pub fn first<'a>(bytes: &'a [u8], n: usize) -> &'a [u8] {
-    let k = marks::smaller(n, bytes.len());
+    let k = n.min(bytes.len());
     &bytes[..k]
 }
 
@@ -40,18 +41,14 @@ pub fn left(chip: &Chip, memory: [u8; ROOM], marks: [u8; ROOM]) -> Chip {
 }
 
 // The chip with the memory that digits give.
-pub fn with_memory(table: &[u32; 256], chip: Chip, digits: &[u8]) -> Chip
-    requires { table.now ≡ digit_table }
-{
+pub fn with_memory(table: &DigitTable, chip: Chip, digits: &[u8]) -> Chip {
     let mut next = chip;
     next.cells = printing::bytes_in(table, digits, &mut next.memory);
     next
 }
 
 // The chip with the marks that digits give.
-pub fn with_marks(table: &[u32; 256], chip: Chip, digits: &[u8]) -> Chip
-    requires { table.now ≡ digit_table }
-{
+pub fn with_marks(table: &DigitTable, chip: Chip, digits: &[u8]) -> Chip {
     let mut next = chip;
     next.marked = printing::bytes_in(table, digits, &mut next.marks);
     next

@@ -15,10 +15,10 @@
 mod chip;
 
 ghost use Rattle.std.specs.Prelude.{◌≡◌, ◌≤◌, ◌<◌, length, IfOk};
-ghost use Rattle.hex_digits.specs.Tables.{digit_table};
 
 use chip::Chip;
 use chips::Collected;
+use hex_read::DigitTable;
 use std::io;
 use std::io::{BufWriter, Write};
 use window::Refusal;
@@ -80,14 +80,14 @@ fn deal_lent(
     marks3: &mut [u8],
 ) -> Refusal {
     let whole = &case.whole;
-    let cells0 = marks::smaller(case.chip0.cells, memory0.len());
-    let marked0 = marks::smaller(case.chip0.marked, marks0.len());
-    let cells1 = marks::smaller(case.chip1.cells, memory1.len());
-    let marked1 = marks::smaller(case.chip1.marked, marks1.len());
-    let cells2 = marks::smaller(case.chip2.cells, memory2.len());
-    let marked2 = marks::smaller(case.chip2.marked, marks2.len());
-    let cells3 = marks::smaller(case.chip3.cells, memory3.len());
-    let marked3 = marks::smaller(case.chip3.marked, marks3.len());
+    let cells0 = case.chip0.cells.min(memory0.len());
+    let marked0 = case.chip0.marked.min(marks0.len());
+    let cells1 = case.chip1.cells.min(memory1.len());
+    let marked1 = case.chip1.marked.min(marks1.len());
+    let cells2 = case.chip2.cells.min(memory2.len());
+    let marked2 = case.chip2.marked.min(marks2.len());
+    let cells3 = case.chip3.cells.min(memory3.len());
+    let marked3 = case.chip3.marked.min(marks3.len());
     deal::deal(
         k,
         case.at,
@@ -138,8 +138,8 @@ fn deal<W: Write>(out: &mut W, case: Case, k: usize) -> io::Result<Case> {
 
 // Collects k chips of a case into the whole, whose buffers are lent.
 fn collect_lent(case: &Case, k: usize, memory: &mut [u8], marks: &mut [u8]) -> Collected {
-    let cells = marks::smaller(case.whole.cells, memory.len());
-    let marked = marks::smaller(case.whole.marked, marks.len());
+    let cells = case.whole.cells.min(memory.len());
+    let marked = case.whole.marked.min(marks.len());
     collect::collect(
         k,
         case.at,
@@ -169,25 +169,25 @@ fn collect<W: Write>(out: &mut W, case: Case, k: usize) -> io::Result<Case> {
 }
 
 // The number that eight digits give; 0 for fewer.
-fn number_in(table: &[u32; 256], digits: &[u8]) -> usize
-    requires { table.now ≡ digit_table }
-{
+fn number_in(table: &DigitTable, digits: &[u8]) -> usize {
     if digits.len() < 8 {
         return 0;
     }
-    hex_read::number_of(table, &digits[..8]) as usize
+    table.number_of(&digits[..8]) as usize
 }
 
 // Runs a line: a letter, and the digits behind it.
-fn run_line<W: Write>(out: &mut W, table: &[u32; 256], case: Case, line: &[u8]) -> io::Result<Case>
-    requires { table.now ≡ digit_table }
-{
-    if line.is_empty() {
+fn run_line<W: Write>(
+    out: &mut W,
+    table: &DigitTable,
+    case: Case,
+    line: &[u8],
+) -> io::Result<Case> {
+    let [letter, digits @ ..] = line else {
         return Ok(case);
-    }
-    let digits = &line[1..];
+    };
     let mut next = case;
-    match line[0] {
+    match *letter {
         b'd' => return deal(out, case, number_in(table, digits)),
         b'c' => return collect(out, case, number_in(table, digits)),
         b'm' => next.whole = chip::with_memory(table, case.whole, digits),
@@ -206,9 +206,12 @@ fn run_line<W: Write>(out: &mut W, table: &[u32; 256], case: Case, line: &[u8]) 
 }
 
 // Runs the lines of a case.
-fn run_lines<W: Write>(out: &mut W, table: &[u32; 256], case: Case, lines: &[u8]) -> io::Result<()>
-    requires { table.now ≡ digit_table }
-{
+fn run_lines<W: Write>(
+    out: &mut W,
+    table: &DigitTable,
+    case: Case,
+    lines: &[u8],
+) -> io::Result<()> {
     let mut now = case;
     for line in lines.split(|c| *c == b'\n') {
         now = run_line(out, table, now, line)?;
@@ -217,12 +220,11 @@ fn run_lines<W: Write>(out: &mut W, table: &[u32; 256], case: Case, lines: &[u8]
 }
 
 // The case that a heading begins.
-fn case_of(table: &[u32; 256], heading: &[u8]) -> Case
-    requires table { table.now ≡ digit_table }
+fn case_of(table: &DigitTable, heading: &[u8]) -> Case
     requires heading { 9 < length heading.now }
 {
     Case {
-        at: hex_read::number_of(table, &heading[1..9]),
+        at: table.number_of(&heading[1..9]),
         whole: chip::empty(),
         chip0: chip::empty(),
         chip1: chip::empty(),
@@ -232,10 +234,8 @@ fn case_of(table: &[u32; 256], heading: &[u8]) -> Case
 }
 
 // Runs the first of some cases and returns how many characters it has.
-fn run_case<W: Write>(out: &mut W, table: &[u32; 256], cases: &[u8]) -> io::Result<usize>
-    requires table { table.now ≡ digit_table }
-    requires some { 0 < length cases.now }
-    ensures some { IfOk result (λ n. 0 < n) }
+fn run_case<W: Write>(out: &mut W, table: &DigitTable, cases: &[u8]) -> io::Result<usize>
+    ensures some { IfOk result (λ n. 0 < length cases.now → 0 < n) }
     ensures within { IfOk result (λ n. n ≤ length cases.now) }
 {
     let end = printing::count_before(b'\n', cases);
@@ -255,19 +255,12 @@ fn run_case<W: Write>(out: &mut W, table: &[u32; 256], cases: &[u8]) -> io::Resu
     Ok(to)
 }
 
-// Runs all cases.
-fn run_cases<W: Write>(out: &mut W, cases: &[u8]) -> io::Result<()> {
-    let table = hex_read::digit_table();
-    let mut at: usize = 0;
-    while at < cases.len() {
-        at += run_case(out, &table, &cases[at..])?;
-    }
-    Ok(())
-}
-
 fn main(rt: HostRuntime) -> io::Result<()> {
     let cases = printing::read_cases(&rt)?;
     let mut out = BufWriter::new(rt.alloc(), io::writer(&rt))?;
-    run_cases(&mut out, &cases)?;
-    out.flush()
+    printing::run_cases(
+        &mut out,
+        &cases,
+        |out, table, cases| run_case(out, table, cases),
+    )
 }

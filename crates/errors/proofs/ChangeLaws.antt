@@ -12,7 +12,7 @@ use lib.Seq.{set_out, set-get_or, get_or-set_same}
 use borrow.Author.Tests.{lt-ltb, le-ltb}
 use Rattle.lists.proofs.TestLaws.{by_test}
 use Rattle.window.specs.declared.Refusal.{Refusal}
-use Rattle.window.specs.declared.Entry.{Entry}
+use Rattle.window.specs.Entries.{Entry}
 use Rattle.window.specs.Windows.{Window, row1}
 use Rattle.window.specs.Images.{Image, blank}
 use Rattle.window.specs.Plans.{Summary, refusal, Plan, Outcome, row12, row13, filled, placed}

@@ -5,7 +5,7 @@ use mathlib.Core.Bool.{Bool}
 use mathlib.Core.List.{List, [], ◌∷◌, map}
 use lib.ListN.{length, length-map}
 use Rattle.lists.proofs.TestLaws.{by_test}
-use Rattle.window.specs.declared.Entry.{Entry}
+use Rattle.window.specs.Entries.{Entry}
 use Rattle.window.specs.Plans.{Plan}
 use Rattle.window.specs.Plans.Plan.{store}
 use Rattle.text.specs.Lines.{Line, front, push, behind, lines}

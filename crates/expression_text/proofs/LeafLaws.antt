@@ -14,8 +14,7 @@ use Rattle.hex_digits.specs.Digits.{between, is_hex, value, digit, bytes, digits
 use Rattle.hex_digits.specs.Numbers.{number_after, in_bytes}
 use Rattle.hex_digits.proofs.DigitLaws.{bytes_pairs, length_pairs, first_bad_pairs}
 use Rattle.hex_digits.proofs.NumberLaws.{length_in_bytes, in_bytes_small, number_in_bytes}
-use Rattle.words.specs.declared.Class.TheVariants.{Alnum, Hex}
-use Rattle.words.specs.Words.{is_letter, counted, all_of, digits_after, number_in, is_name}
+use Rattle.words.specs.Words.{is_letter, counted, all_of, digits_after, number_in, is_name, is_alnum}
 use Rattle.words.proofs.SameLaws.{never}
 use Rattle.operands.specs.Trees.Tree.{number, name}
 use Rattle.operands.specs.Reading.{digits_at, number_at, word_at, name_at, term_by, term_at}
@@ -25,8 +24,8 @@ use Rattle.expression_text.proofs.TextLaws.{first_at, behind, count_on}
 
 -- what follows goes on neither a number nor a name
 pub record Stops (q : List ℕ) : Type 0 where
-  pub digits : counted Hex q ≡ 0
-  pub letters : counted Alnum q ≡ 0
+  pub digits : counted is_hex q ≡ 0
+  pub letters : counted is_alnum q ≡ 0
 
 -- ---- a number
 
@@ -40,7 +39,7 @@ by_pairs n (b ∷ bs) =
     ap (λ (k : ℕ). digits_after k (digits_of bs)) e ∙ by_pairs (n * 256 + (16 * x + y)) bs
 
 -- hex digits are counted as in `first_bad`
-counted_hex : (cs : List ℕ) → counted Hex cs ≡ first_bad cs
+counted_hex : (cs : List ℕ) → counted is_hex cs ≡ first_bad cs
 unfolding counted
 counted_hex [] = refl
 counted_hex (c ∷ cs) = by_test (is_hex c) (λ t. rw t (ap suc (counted_hex cs))) (λ t. rw t)
@@ -65,7 +64,7 @@ pub record Named (x : List ℕ) : Type 0 where
   pub some : length x ≡ 0 → ⊥
   pub short : length x ≤ 16
   pub first : is_letter (get_or x 0 0) ≡ true
-  pub all : counted Alnum x ≡ length x
+  pub all : counted is_alnum x ≡ length x
 
 -- a name has it all
 named : (x : List ℕ) → is_name x ≡ true → Named x
@@ -74,18 +73,18 @@ named x h =
     by_test (eqb (length x) 0) (λ e. let k : false ≡ true = rw e at h in absurd (never (sym k)))
     (λ e. by_test (ltb 16 (length x)) (λ f. let k : false ≡ true = rw (e, f) at h in absurd (never (sym k)))
     (λ f. by_test (is_letter (get_or x 0 0))
-    (λ g. let k : eqb (counted Alnum x) (length x) ≡ true = rw (e, f, g) at h in record {
+    (λ g. let k : eqb (counted is_alnum x) (length x) ≡ true = rw (e, f, g) at h in record {
       some = eqb-false (length x) 0 e;
       short = ltb-false 16 (length x) f;
       first = g;
-      all = eqb-true (counted Alnum x) (length x) k;
+      all = eqb-true (counted is_alnum x) (length x) k;
     })
     (λ g. let k : false ≡ true = rw (e, f, g) at h in absurd (never (sym k)))))
 
 -- and what has it all is one
 pub name_is : (x : List ℕ) → Named x → is_name x ≡ true
 unfolding is_name all_of
-name_is x w = rw (ne_eqb (length x) 0 w.some, le-ltb 16 (length x) w.short, w.first, eq-eqb (counted Alnum x) (length x) w.all)
+name_is x w = rw (ne_eqb (length x) 0 w.some, le-ltb 16 (length x) w.short, w.first, eq-eqb (counted is_alnum x) (length x) w.all)
 
 -- a letter is no other character
 no_other : (c k : ℕ) → is_letter k ≡ false → is_letter c ≡ true → eqb c k ≡ false
@@ -104,8 +103,8 @@ module _ (n : ℕ) (s : List ℕ) (at : ℕ) (q : List ℕ) (z : Stops q) where
   unfolding term_at term_by number_at digits_at
   number_back v h e =
       let from : drop (at + 1) s ≡ digits_of (in_bytes 4 v) ++ q = behind s at (char "$" ∷ []) (digits_of (in_bytes 4 v) ++ q) e in
-      let c : counted Hex (digits_of (in_bytes 4 v) ++ q) ≡ 8
-      = count_on Hex (digits_of (in_bytes 4 v)) q (counted_hex (digits_of (in_bytes 4 v)) ∙ first_bad_pairs (in_bytes 4 v) (in_bytes_small 4 v)) ∙ omega (arith, eight v, z.digits) in
+      let c : counted is_hex (digits_of (in_bytes 4 v) ++ q) ≡ 8
+      = count_on is_hex (digits_of (in_bytes 4 v)) q (counted_hex (digits_of (in_bytes 4 v)) ∙ first_bad_pairs (in_bytes 4 v) (in_bytes_small 4 v)) ∙ omega (arith, eight v, z.digits) in
       let t : take 8 (digits_of (in_bytes 4 v) ++ q) ≡ digits_of (in_bytes 4 v)
       = ap (λ (k : ℕ). take k (digits_of (in_bytes 4 v) ++ q)) (sym (eight v)) ∙ take-append_seam (digits_of (in_bytes 4 v)) q in
       let l : at + 1 + 8 ≡ at + suc (length (digits_of (in_bytes 4 v))) = omega (arith, eight v) in
@@ -118,5 +117,5 @@ module _ (n : ℕ) (s : List ℕ) (at : ℕ) (q : List ℕ) (z : Stops q) where
       let w : Named x = named x h in
       let f : get_or s at 0 ≡ get_or x 0 0 = first_at s at (x ++ q) e ∙ get_or-append x q 0 0 (omega (arith, w.some)) in
       let a : (eqb (get_or x 0 0) (char "$") ≡ false) × (eqb (get_or x 0 0) (char "(") ≡ false) = letter_alone (get_or x 0 0) w.first in
-      let c : counted Alnum (x ++ q) ≡ length x = count_on Alnum x q w.all ∙ omega (arith, z.letters) in
+      let c : counted is_alnum (x ++ q) ≡ length x = count_on is_alnum x q w.all ∙ omega (arith, z.letters) in
       rw (f, a.0, a.1, w.first, e, c, le-ltb 16 (length x) w.short, take-append_seam x q)

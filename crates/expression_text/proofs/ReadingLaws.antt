@@ -13,8 +13,7 @@ use Rattle.lists.specs.Characters.{char}
 use Rattle.lists.proofs.TestLaws.{by_test}
 use Rattle.hex_digits.specs.Digits.{value}
 use Rattle.hex_digits.proofs.DigitLaws.{value_small}
-use Rattle.words.specs.declared.Class.TheVariants.{Alnum}
-use Rattle.words.specs.Words.{is_letter, digits_after, number_in, is_name}
+use Rattle.words.specs.Words.{is_letter, digits_after, number_in, is_name, is_alnum}
 use Rattle.operands.specs.Trees.{Tree, operation}
 use Rattle.operands.specs.Reading.{Read, digits_at, number_at, word_at, name_at, closed_at, term_by, is_sign, combined, next_by, more_by, sum_at, inner_at, term_at}
 use Rattle.operands.specs.Reading.Read.{tree, bad}
@@ -45,14 +44,14 @@ name_whole : (s : List ℕ) (at : ℕ) → is_letter (get_or s at 0) ≡ true �
 unfolding word_at
 name_whole s at h f =
     let n : ℕ = word_at s at in
-    let l : length (take n (drop at s)) ≡ n = length-take-le n (drop at s) (count_most Alnum (drop at s)) in
+    let l : length (take n (drop at s)) ≡ n = length-take-le n (drop at s) (count_most is_alnum (drop at s)) in
     let c : get_or (take n (drop at s)) 0 0 ≡ get_or s at 0
     = get_or-take n (drop at s) 0 0 (word_some s at h) ∙ sym (first_at s at (drop at s) refl) in
     name_is (take n (drop at s)) (record {
       some = λ z. omega (arith, l, word_some s at h);
       short = omega (arith, l, ltb-false 16 n f);
       first = ap is_letter c ∙ h;
-      all = count_taken Alnum (drop at s);
+      all = count_taken is_alnum (drop at s);
     })
 
 -- ---- trees

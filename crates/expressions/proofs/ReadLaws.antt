@@ -10,7 +10,6 @@ use lib.Dec.{ltb, eqb}
 use lib.ListN.{length, get_or, get_or-eq_default}
 use Rattle.hex_digits.specs.Digits.{between}
 use Rattle.lists.proofs.TestLaws.{by_test}
-use Rattle.words.specs.declared.Class.TheVariants.{Alnum}
 use Rattle.words.specs.Words.{is_letter, is_alnum}
 use Rattle.words.proofs.CountLaws.{count_more}
 use Rattle.words.proofs.SameLaws.{never}
@@ -47,7 +46,7 @@ word_some s at e = by_test (ltb at (length s)) (λ l. here (ltb-true at (length 
     is_alnum_lem = unfold is_alnum in rw e (by_test (between 48 57 (get_or s at 0)) (λ d. rw d) (λ d. rw d))
 
     here : at < length s → 1 ≤ word_at s at
-    here l = rw (count_more Alnum s at l is_alnum_lem) (omega arith)
+    here l = rw (count_more is_alnum s at l is_alnum_lem) (omega arith)
 
 past_number : (s : List ℕ) (at : ℕ) → Past at (number_at s at)
 unfolding number_at

@@ -1,16 +1,16 @@
 -- Worked examples of expressions, as one table under one statement.
-use Rattle.std.specs.Prelude.{Bool, true, ◌&&◌, List, [], ◌∷◌, ◌++◌, ℕ, T, eqb, replicate}
+use Rattle.std.specs.Prelude.{Bool, true, ◌&&◌, List, [], ◌∷◌, ◌++◌, ℕ, T, eqb, replicate, Result, Ok, Err}
 use Prim.Native.String.{String}
 use Rattle.lists.specs.Characters.{codes}
 use Rattle.hex_digits.specs.Digits.{between, is_hex, value}
 use Rattle.words.specs.Words.{is_letter, is_alnum, is_blank, counted, number_in}
 use Rattle.symbol_table.specs.Symbols.{symbols_in}
-use Rattle.operands.specs.declared.Worth.{Worth}
+use Rattle.operands.specs.declared.ExpressionError.{ExpressionError}
 use Rattle.operands.specs.Trees.{operation}
 use Rattle.operands.specs.Reading.{digits_at, number_at, word_at, name_at, closed_at, term_by, is_sign, next_by, more_by, sum_by, sum_at, expression}
-use Rattle.operands.specs.Values.{verdict, worth_of}
+use Rattle.operands.specs.Values.{verdict, worth_of, row_of}
 
--- a text, and the row and value that it is given
+-- a text, and the row or value that it is given; the other is 0
 pub record Case : Type 0 where
   pub text : List ℕ
   pub row : ℕ
@@ -67,8 +67,9 @@ cases =
     ∷ case "$5+($FFFFFFFF+$1)" 27 0
     ∷ []
 
-abbrev agrees : Worth → Case → Bool
-agrees w c = eqb w.row c.row && eqb w.value c.worth
+abbrev agrees : Result ℕ ExpressionError → Case → Bool
+agrees (Ok v) c = eqb 0 c.row && eqb v c.worth
+agrees (Err e) c = eqb (row_of e) c.row && eqb 0 c.worth
 
 unfoldable pub all_hold : List Case → Bool
 unfolding between is_hex value is_letter is_alnum is_blank counted number_in symbols_in operation digits_at number_at word_at name_at closed_at term_by is_sign next_by more_by sum_by sum_at expression verdict worth_of

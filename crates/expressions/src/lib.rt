@@ -7,88 +7,51 @@ ghost use Rattle.symbol_table.specs.Symbols.{symbols_in};
 ghost use Rattle.operands.specs.Reading.{term_at, sum_at};
 ghost use Rattle.operands.specs.Values.{told, worth_of};
 
-use operands::{Part, Worth};
+use operands::{ExpressionError, Part};
 
 // So many brackets may be open at once.
 const DEEPEST: usize = 32;
 
 // A term at `at`; `left` more brackets may be opened.
 #[cycle(sum_term)]
-fn term(text: &[u8], table: &[u8], at: usize, left: usize) -> Part
+fn term(text: &[u8], table: &[u8], at: usize, left: usize) -> Option<Part>
     ensures { result ≡ told (symbols_in table.now) (term_at left text.now at) }
 {
-    if text.len() <= at {
-        return Part {
-            row: 25,
-            value: 0,
-            next: 0,
-        };
-    }
-    let c = text[at];
-    if c == b'$' {
-        return operands::number(text, at + 1);
-    }
-    if c == b'(' {
-        if left == 0 {
-            return Part {
-                row: 25,
-                value: 0,
-                next: 0,
-            };
+    match *text.get(at)? {
+        b'$' => operands::number(text, at + 1),
+        b'(' => {
+            let inner = sum(text, table, at + 1, left.checked_sub(1)?)?;
+            operands::close(text, inner)
         }
-        let inner = sum(text, table, at + 1, left - 1);
-        return operands::close(text, inner);
-    }
-    if words::is_letter(c) {
-        return operands::name(text, table, at);
-    }
-    Part {
-        row: 25,
-        value: 0,
-        next: 0,
+        c if words::is_letter(c) => operands::name(text, table, at),
+        _ => None,
     }
 }
 
 // A sum at `at`; `left` more brackets may be opened.
 #[cycle(sum_term)]
-fn sum(text: &[u8], table: &[u8], at: usize, left: usize) -> Part
+fn sum(text: &[u8], table: &[u8], at: usize, left: usize) -> Option<Part>
     ensures { result ≡ told (symbols_in table.now) (sum_at left text.now at) }
 {
-    let first = term(text, table, at, left);
-    if first.row == 25 {
-        return first;
-    }
-    let mut so_far = first;
-    loop {
-        let i = so_far.next;
-        if text.len() <= i {
-            return so_far;
-        }
-        let sign = text[i];
+    let mut so_far = term(text, table, at, left)?;
+    while let Some(&sign) = text.get(so_far.next) {
         if !operands::is_sign(sign) {
-            return so_far;
+            break;
         }
-        let other = term(text, table, i + 1, left);
-        if other.row == 25 {
-            return other;
-        }
+        let other = term(text, table, so_far.next + 1, left)?;
         so_far = operands::join(so_far, sign, other);
     }
+    Some(so_far)
 }
 
-// The value of an expression, with the symbols of a table; or the row that refuses it.
-pub fn evaluate(text: &[u8], table: &[u8]) -> Worth
+// The value of an expression, with the symbols of a table.
+#[tactic(auto, using(crate::proofs::WholeLaws::worth_told))]
+pub fn evaluate(text: &[u8], table: &[u8]) -> Result<u32, ExpressionError>
     ensures { result ≡ worth_of (symbols_in table.now) text.now }
 {
-    let read = sum(text, table, 0, DEEPEST);
-    if read.row == 25 {
-        return Worth { row: 25, value: 0 };
-    }
+    let read = sum(text, table, 0, DEEPEST).ok_or(ExpressionError::Malformed)?;
     if read.next != text.len() {
-        return Worth { row: 25, value: 0 };
+        return Err(ExpressionError::Malformed);
     }
-    Worth {
-        row: read.row,
-        value: read.value,
-    }
+    Ok(read.value?)
 }

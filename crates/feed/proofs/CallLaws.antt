@@ -5,7 +5,7 @@ use native.Mathlib.Omega.{arith}
 use mathlib.Core.Bool.{true, false}
 use mathlib.Core.List.{List}
 use lib.ListN.{length}
-use borrow.Author.Tests.{eq-eqb, ne_eqb, lt-ltb, le-ltb}
+use borrow.Author.Tests.{eq-eqb, lt-ltb, le-ltb}
 use Rattle.lists.proofs.TestLaws.{by_test}
 use Rattle.window.specs.Windows.{Window, window_of}
 use Rattle.window.specs.Plans.{refusal}
@@ -34,10 +34,6 @@ module _ (s : Session) (base : ℕ) (memory marks part : List ℕ) where
   -- the stage that the definitions give
   abbrev whole : Stage
   whole = feed_as form (status_of s) W part
-
-  -- an earlier refusal stays
-  pub feed_refused : (s.refusal.reason ≡ 0 → ⊥) → whole ≡ stage (status_of s) memory marks
-  feed_refused z = rw (ne_eqb s.refusal.reason 0 z)
 
   module _ (z : s.refusal.reason ≡ 0) where
     -- row 1

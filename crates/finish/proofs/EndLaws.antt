@@ -8,9 +8,9 @@ use lib.ListN.{length, take}
 use lib.Seq.{take_all}
 use lib.Dec.{eqb}
 use mathlib.Core.Option.{Option, none, some}
-use borrow.Author.Tests.{eq-eqb, ne_eqb, eqb-false}
+use borrow.Author.Tests.{eq-eqb, eqb-false}
 use Rattle.lists.proofs.TestLaws.{by_test}
-use Rattle.window.specs.declared.Entry.{Entry}
+use Rattle.window.specs.Entries.{Entry}
 use Rattle.window.specs.declared.Loaded.{Loaded}
 use Rattle.window.specs.declared.Refusal.{Refusal}
 use Rattle.window.specs.Windows.{Window, window_of}
@@ -37,10 +37,6 @@ module _ (s : Session) (base : ℕ) (memory marks : List ℕ) where
 
   abbrev W : Window
   W = window_of base memory marks
-
-  -- an earlier refusal stays
-  pub end_refused : (s.refusal.reason ≡ 0 → ⊥) → end_as form (status_of s) W ≡ stage (status_of s) memory marks
-  end_refused z = rw (ne_eqb s.refusal.reason 0 z)
 
   -- row 1
   pub end_barred : s.refusal.reason ≡ 0 → row1_later_in form W (going_of s) ≡ true → end_as form (status_of s) W ≡ stopped (refusal 1 0 0) memory marks

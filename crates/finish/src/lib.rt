@@ -6,8 +6,8 @@ ghost use Rattle.window.specs.Windows.{window_of};
 ghost use Rattle.parts.specs.Forms.{end_as};
 ghost use Rattle.session.specs.Sessions.{status_of};
 
+use hex_read::DigitTable;
 use session::Session;
-use tally::Turn;
 
 // The state behind the end: the record that is not complete is read, and row 14 is tried.
 pub fn finish(session: Session, base: u32, memory: &mut [u8], marks: &mut [u8]) -> Session
@@ -26,7 +26,7 @@ pub fn finish(session: Session, base: u32, memory: &mut [u8], marks: &mut [u8]) 
     let form = session.form;
     let cells = memory.len();
     marks::tidy(form, marks, cells);
-    let table = hex_read::digit_table();
+    let table = DigitTable::new();
     let total = session.total;
     let tally = session.tally;
     let mut header = session.header;
@@ -46,13 +46,13 @@ pub fn finish(session: Session, base: u32, memory: &mut [u8], marks: &mut [u8]) 
         marks,
     );
     match turn {
-        Turn::Refused(refusal) => return session::halt(session, refusal, marks),
-        Turn::Next(last) => {
+        Err(refusal) => session::halt(session, refusal, marks),
+        Ok(last) => {
             if !last.ended {
-                let state = last.state;
-                return session::halt(session, window::refuse(14, state.number, total), marks);
+                let number = last.state.number;
+                return session::halt(session, window::refuse(14, number, total), marks);
             }
-            return holding::next_record(session, total, last, header);
+            holding::next_record(session, total, last, header)
         }
     }
 }

@@ -6,7 +6,7 @@ use mathlib.Core.List.{List, []}
 use lib.ListN.{take}
 use Rattle.window.specs.declared.Header.{Header}
 use Rattle.window.specs.Windows.{Window}
-use Rattle.window.specs.declared.Entry.TheVariants.{Absent, Present}
+use Rattle.std.specs.Prelude.{None, Some}
 use Rattle.text.specs.Terms.{loaded, header_bytes}
 use Rattle.text.proofs.FormatLaws.{HeaderOk}
 use Rattle.text.proofs.AcrossLaws.{carry_over}
@@ -34,7 +34,7 @@ bare_header edition W t = ap (λ (x : Header). take x.len x.bytes) (no_header_no
 -- what a tape loads has addresses of 16 bits, which S-records can have
 pub tape_to_records : TapeToRecords
 tape_to_records edition W t a room ok small r =
-    carry_over (tape edition) srec tapeLimits recordLimits (tapesLawful edition) recordsLawful W t (header_bytes (loaded (tape edition) W t)) (Present a)
+    carry_over (tape edition) srec tapeLimits recordLimits (tapesLawful edition) recordsLawful W t (header_bytes (loaded (tape edition) W t)) (Some a)
     room ok
     (λ s img b. record {
       rising = b.storable.rising;
@@ -47,7 +47,7 @@ tape_to_records edition W t a room ok small r =
 pub tape_to_tape : TapeToTape
 tape_to_tape edition other W t room ok r =
     carry_over (tape edition) (tape other) tapeLimits tapeLimits (tapesLawful edition) (tapesLawful other) W t (header_bytes (loaded (tape edition) W t))
-    Absent room ok
+    None room ok
     (λ s img b. record {
       rising = b.storable.rising;
       small = b.storable.small;
@@ -58,7 +58,7 @@ tape_to_tape edition other W t room ok r =
 -- S-records without a header and above FFFF nothing
 pub records_to_tape : RecordsToTape
 records_to_tape edition W t room ok empty below r =
-    carry_over srec (tape edition) recordLimits tapeLimits recordsLawful (tapesLawful edition) W t (header_bytes (loaded srec W t)) Absent room ok
+    carry_over srec (tape edition) recordLimits tapeLimits recordsLawful (tapesLawful edition) W t (header_bytes (loaded srec W t)) None room ok
     (λ s img b. record {
       rising = b.storable.rising;
       small = λ A B k. (below A B ((b.members A B).0 k), (b.storable.small A B k).1);

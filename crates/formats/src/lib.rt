@@ -24,19 +24,11 @@ pub enum Format {
 }
 
 // What stands between the lines of a tape: CR, LF, NUL or XOFF.
+#[tactic(auto, unfolding(tape::specs::Lines::is_gap))]
 fn is_pause(c: u8) -> bool
     ensures { result ≡ is_gap c }
 {
-    if c == b'\r' {
-        return true;
-    }
-    if c == b'\n' {
-        return true;
-    }
-    if c == 0 {
-        return true;
-    }
-    c == XOFF
+    matches!(c, b'\r' | b'\n' | 0 | XOFF)
 }
 
 // Is it a character between lines?

@@ -2,7 +2,7 @@
 use mathlib.Core.Path.{◌≡◌, refl}
 use Prim.Native.Nat.{ℕ}
 use mathlib.Core.List.{List}
-use Rattle.window.specs.declared.Entry.{Entry}
+use Rattle.window.specs.Entries.{Entry}
 use Rattle.window.specs.Windows.{Window, row1, window_of}
 use Rattle.window.specs.Plans.{Plan, Outcome}
 use Rattle.window.specs.Plans.Outcome.{refused, accepted}

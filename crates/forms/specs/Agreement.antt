@@ -1,7 +1,7 @@
 -- "Loading, .. writing, .. and the tapes' calls give the byte form's answers, texts and memory, and marks that unpack to the same" (Req 08).
 -- The proofs are in proofs/Agreement.antt.
 use Rattle.std.specs.Prelude.{◌≡◌, ℕ, false, List, length}
-use Rattle.window.specs.declared.Entry.{Entry}
+use Rattle.window.specs.Entries.{Entry}
 use Rattle.window.specs.Windows.{Window, window_of}
 use Rattle.window.specs.Images.{Image}
 use Rattle.window.specs.Plans.{Summary}

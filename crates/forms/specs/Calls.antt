@@ -1,6 +1,6 @@
 -- Loads and writes of a window whose marks are stored in a form, as their caller sees them (Req 08).
 use Rattle.std.specs.Prelude.{ℕ, List, length}
-use Rattle.window.specs.declared.Entry.{Entry}
+use Rattle.window.specs.Entries.{Entry}
 use Rattle.window.specs.declared.Loaded.{Loaded}
 use Rattle.window.specs.Windows.{Window}
 use Rattle.window.specs.Plans.{Summary, Plan, Outcome}

@@ -4,7 +4,7 @@ use Prim.Native.Nat.{ℕ, ◌+◌}
 use mathlib.Core.List.{[]}
 use mathlib.Core.Logic.{⊎_elim, inl, inr}
 use lib.ListN.{length, get_or}
-use Rattle.window.specs.declared.Entry.TheVariants.{Absent}
+use Rattle.std.specs.Prelude.{None}
 use Rattle.window.specs.Images.{marks_of, overlaid}
 use Rattle.window.specs.Plans.{is_present}
 use Rattle.window.specs.Cells.{cells}
@@ -126,7 +126,7 @@ separate base A P Q p q c h n = record {
   cells = disjoint P.memory P.marks Q.memory Q.marks (fits base A P p).clean.1 (fits base A Q q).clean.1
       (λ i k l x y. c (base + i) (get_or P.memory i 0) (get_or Q.memory i 0) (i, k, x, refl, refl) (i, l, y, refl, refl));
   header = ⊎_elim (λ (e : P.header ≡ []). inl (ap non_empty e)) (λ (e : Q.header ≡ []). inr (ap non_empty e)) h;
-  entry = ⊎_elim (λ (e : P.entry ≡ Absent). inl (ap is_present e)) (λ (e : Q.entry ≡ Absent). inr (ap is_present e)) n;
+  entry = ⊎_elim (λ (e : P.entry ≡ None). inl (ap is_present e)) (λ (e : Q.entry ≡ None). inr (ap is_present e)) n;
 }
 
 -- Req 10: two patches may change places

@@ -8,8 +8,8 @@ use mathlib.Core.Logic.{⊎_elim, ◌⊎◌}
 use mathlib.Core.Option.{Option, none, some}
 use lib.ListN.{length}
 use Rattle.lists.proofs.TestLaws.{by_test}
-use Rattle.window.specs.declared.Entry.{Entry}
-use Rattle.window.specs.declared.Entry.TheVariants.{Absent, Present}
+use Rattle.window.specs.Entries.{Entry}
+use Rattle.std.specs.Prelude.{None, Some}
 use Rattle.window.specs.Images.{Image}
 use Rattle.window.specs.Plans.{is_present}
 use Rattle.overlay.specs.Layers.{laid, holds, non_empty, merged, Content, patched}
@@ -57,9 +57,9 @@ sole_header [] (b ∷ bs) e f = absurd (let z : ◌≡◌ {A = ℕ} 0 1 = cc in 
 sole_header (a ∷ bs) y e f = absurd (let z : ◌≡◌ {A = ℕ} 0 1 = cc in omega arith)
 
 sole_entry : Sole is_present
-sole_entry Absent Absent e f = refl
-sole_entry Absent (Present b) e f = absurd (let z : ◌≡◌ {A = ℕ} 0 1 = cc in omega arith)
-sole_entry (Present a) y e f = absurd (let z : ◌≡◌ {A = ℕ} 0 1 = cc in omega arith)
+sole_entry None None e f = refl
+sole_entry None (Some b) e f = absurd (let z : ◌≡◌ {A = ℕ} 0 1 = cc in omega arith)
+sole_entry (Some a) y e f = absurd (let z : ◌≡◌ {A = ℕ} 0 1 = cc in omega arith)
 
 -- ---- images, cell by cell
 

@@ -1,24 +1,24 @@
 -- Req 10's three conditions are needed: pairs of patches, for one base, that meet two of them, and for which the order matters.
 use Rattle.std.specs.Prelude.{ℕ, [], ◌∷◌}
-use Rattle.window.specs.declared.Entry.TheVariants.{Absent, Present}
+use Rattle.std.specs.Prelude.{None, Some}
 use Rattle.overlay.specs.Merges.{Lent}
 use Rattle.grouping.specs.Grouping.{NoSharedCell, OneHeader, OneEntry, OrderMatters}
 
 -- the base: two cells, of which the first is marked
 abbrev base_image : Lent
-base_image = record { memory = 7 ∷ 8 ∷ []; marks = 1 ∷ 0 ∷ []; header = []; entry = Absent }
+base_image = record { memory = 7 ∷ 8 ∷ []; marks = 1 ∷ 0 ∷ []; header = []; entry = None }
 
 -- a patch of the second cell alone
 abbrev of_cell : ℕ → Lent
-of_cell b = record { memory = 0 ∷ b ∷ []; marks = 0 ∷ 1 ∷ []; header = []; entry = Absent }
+of_cell b = record { memory = 0 ∷ b ∷ []; marks = 0 ∷ 1 ∷ []; header = []; entry = None }
 
 -- a patch of the header alone
 abbrev of_header : ℕ → Lent
-of_header b = record { memory = 0 ∷ 0 ∷ []; marks = 0 ∷ 0 ∷ []; header = b ∷ []; entry = Absent }
+of_header b = record { memory = 0 ∷ 0 ∷ []; marks = 0 ∷ 0 ∷ []; header = b ∷ []; entry = None }
 
 -- a patch of the entry alone
 abbrev of_entry : ℕ → Lent
-of_entry a = record { memory = 0 ∷ 0 ∷ []; marks = 0 ∷ 0 ∷ []; header = []; entry = Present a }
+of_entry a = record { memory = 0 ∷ 0 ∷ []; marks = 0 ∷ 0 ∷ []; header = []; entry = Some a }
 
 -- a shared cell
 abbrev pub SharedCell : Type 0

@@ -1,6 +1,6 @@
 -- Req 10: three patches, any grouping. Each statement is over what the calls of `merge` leave.
 use Rattle.std.specs.Prelude.{◌≡◌, ℕ, true, [], ◌⊎◌}
-use Rattle.window.specs.declared.Entry.TheVariants.{Absent}
+use Rattle.std.specs.Prelude.{None}
 use Rattle.window.specs.Windows.{Marked}
 use Rattle.window.specs.Cells.{shown}
 use Rattle.window.specs.Plans.{passes}
@@ -20,7 +20,7 @@ pub record Agree (base : ℕ) (X Y : Lent) : Type 0 where
 pub record Empty (base : ℕ) (E : Lent) : Type 0 where
   pub cells : shown (window_at base E) ≡ []
   pub header : E.header ≡ []
-  pub entry : E.entry ≡ Absent
+  pub entry : E.entry ≡ None
 
 -- Req 10's "share no cell"
 abbrev pub NoSharedCell : ℕ → Lent → Lent → Type 0
@@ -32,7 +32,7 @@ OneHeader P Q = (P.header ≡ []) ⊎ (Q.header ≡ [])
 
 -- "and at most one an entry"
 abbrev pub OneEntry : Lent → Lent → Type 0
-OneEntry P Q = (P.entry ≡ Absent) ⊎ (Q.entry ≡ Absent)
+OneEntry P Q = (P.entry ≡ None) ⊎ (Q.entry ≡ None)
 
 -- Req 10's "both groupings agree": base, hotfix and site settings from the left, or the last two first. If no merge of the one is
 -- refused, none of the other is

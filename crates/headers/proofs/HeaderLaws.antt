@@ -1,6 +1,6 @@
 -- The header that a record holds.
 use mathlib.Core.Path.{◌≡◌, refl, sym, ap, ◌∙◌, subst}
-use Prim.Native.Nat.{ℕ, zero, ◌+◌, ◌-◌, ◌*◌, ◌≤◌}
+use Prim.Native.Nat.{ℕ, ◌-◌, ◌*◌, ◌≤◌}
 use native.Mathlib.Omega.{arith}
 use mathlib.Core.List.{List, [], ◌++◌}
 use lib.ListN.{length, get_or, take, drop, replicate}
@@ -16,23 +16,8 @@ use Rattle.srec.specs.Reading.{Read, read}
 use Rattle.srec.specs.Reading.Read.{good, bad}
 use Rattle.srec.specs.Judging.{carried}
 use Rattle.srec.proofs.LimitLaws.{ReadOk, read_ok}
-use Rattle.srec_fields.specs.declared.Record.TheVariants.{Bad}
-use Rattle.srec_fields.specs.Records.{as_record}
 use Rattle.srec_fields.proofs.FieldLaws.{Fields, read_fields, Got}
 use Rattle.srec_fields.proofs.KindLaws.{type_of_kind}
-
--- a record that carries no header has the empty one
-no_header : (chars : List ℕ) → header_in (carried (read chars)) [] ≡ [] → header_of [] ≡ header_of (header_in (carried (read chars)) [])
-no_header chars e = rw e refl
-
--- a record that cannot be read has no header
-pub header_bad : (chars : List ℕ) (place reason at want : ℕ) → Bad reason at want ≡ as_record place (read chars)
-    → header_of [] ≡ header_of (header_in (carried (read chars)) [])
-header_bad chars place reason at want q = no_header chars (go (read chars) q)
-  where
-    go : (r : Read) → Bad reason at want ≡ as_record place r → header_in (carried r) [] ≡ []
-    go (good k a ds) e = absurd (let z : ◌≡◌ {A = ℕ} 0 1 = cc in omega arith)
-    go (bad f) e = refl
 
 -- a record of another type leaves a header as it is
 pub other_keeps : (chars h : List ℕ) → (get_or chars 1 0 ≡ 48 → ⊥) → header_in (carried (read chars)) h ≡ h
@@ -70,11 +55,6 @@ s0_record chars k a ds e c =
 given_type : (chars : List ℕ) (kind a n : ℕ) → Got chars kind a n → get_or chars 1 0 ≡ kind
 given_type chars kind a n r =
     sym (type_of_kind (get_or chars 1 0) r.k r.fields.type_known) ∙ type_of_kind kind r.k r.known_is
-
--- a record of another type has no header
-pub header_other : (chars : List ℕ) (kind a n : ℕ) → Got chars kind a n → (kind ≡ 48 → ⊥)
-    → header_of [] ≡ header_of (header_in (carried (read chars)) [])
-header_other chars kind a n r h = no_header chars (other_keeps chars [] (λ q. h (sym (given_type chars kind a n r) ∙ q)))
 
 -- the data of an S0 is its header
 pub header_s0 : (chars : List ℕ) (kind a n : ℕ) → Got chars kind a n → kind ≡ 48 → (bs : List ℕ)

@@ -17,6 +17,7 @@ const CAPITAL: u8 = b'A' - 10;
 const SMALL: u8 = b'a' - 10;
 
 // The value of a digit of either case; 16 for a character that is none.
+#[tactic(auto, using(std::proofs::lemmas::Bool::Decides::nat_tests), unfolding(hex_digits::specs::Tables::digit_or16, hex_digits::specs::Digits::is_hex, hex_digits::specs::Digits::value, hex_digits::specs::Digits::between))]
 pub fn digit_of(c: u8) -> u8
     ensures { result ≡ digit_or16 c }
 {
@@ -28,19 +29,52 @@ pub fn digit_of(c: u8) -> u8
     }
 }
 
-// The entries of all characters as a value. A load takes it once, since a constant that is indexed in place is built anew at each use.
-pub fn digit_table() -> [u32; 256]
-    ensures { result ≡ digit_table }
-{
-    DIGITS
+// The entries of all characters. A load makes it once, since a constant that is indexed in place is built anew at each use.
+#[derive(Clone, Copy)]
+pub struct DigitTable {
+    entries: [u32; 256],
+    ghost right: { entries ≡ digit_table },
 }
 
-// The byte that two digits stand for. A character that is no digit counts as 0: its entry is a multiple of 256.
-pub fn byte_of(table: &[u32; 256], c: u8, d: u8) -> u8
-    requires { table.now ≡ digit_table }
-    ensures { result ≡ byte_of c d }
-{
-    ((16 * table[c as usize] + table[d as usize]) % 256) as u8
+impl DigitTable {
+    pub fn new() -> DigitTable {
+        DigitTable { entries: DIGITS }
+    }
+
+    // The byte that two digits stand for. A character that is no digit counts as 0: its entry is a multiple of 256.
+    pub fn byte_of(&self, c: u8, d: u8) -> u8
+        ensures { result ≡ byte_of c d }
+    {
+        ((16 * self.entries[c as usize] + self.entries[d as usize]) % 256) as u8
+    }
+
+    // The entries of pairs of characters, added up, 16 times that of the first: the sum of the bytes that digits stand for, and at least
+    // NONE where a character is no digit. So one walk tells both. High and low digits are added up apart: it saves a product a pair. A
+    // pair adds 17 times NONE at most.
+    pub fn weigh(&self, chars: &[u8]) -> u32
+        requires { length chars.now ≤ 1024 }
+        ensures { (result ≡ weighed chars.now) × (result ≤ 17 * 65536 * length chars.now) }
+    {
+        let mut high: u32 = 0;
+        let mut low: u32 = 0;
+        for k in 0..chars.len() / 2 {
+            high += self.entries[chars[2 * k] as usize];
+            low += self.entries[chars[2 * k + 1] as usize];
+        }
+        16 * high + low
+    }
+
+    // The number that up to four pairs of digits stand for.
+    pub fn number_of(&self, chars: &[u8]) -> u32
+        requires { length chars.now ≤ 8 }
+        ensures { result ≡ number (bytes chars.now) }
+    {
+        let mut a: u32 = 0;
+        for pair in chars.chunks_exact(2) {
+            a = a * 256 + u32::from(self.byte_of(pair[0], pair[1]));
+        }
+        a
+    }
 }
 
 // What a digit stands for, by arithmetic, of which the compiler makes vectors: the low four bits, and 9 more for a letter. Of a
@@ -55,48 +89,10 @@ pub fn value_of(c: u8) -> u8
 pub fn first_bad(chars: &[u8]) -> usize
     ensures { result ≡ first_bad chars.now }
 {
-    let mut i: usize = 0;
-    while i < chars.len() {
-        if digit_of(chars[i]) == 16 {
-            return i;
-        }
-        i += 1;
-    }
-    i
-}
-
-// The entries of pairs of characters, added up, 16 times that of the first: the sum of the bytes that digits stand for, and at least
-// NONE where a character is no digit. So one walk tells both. High and low digits are added up apart: it saves a product a pair. A pair
-// adds 17 times NONE at most.
-pub fn weigh(table: &[u32; 256], chars: &[u8]) -> u32
-    requires { (table.now ≡ digit_table) × (length chars.now ≤ 1024) }
-    ensures { (result ≡ weighed chars.now) × (result ≤ 17 * 65536 * length chars.now) }
-{
-    let n = chars.len() / 2;
-    let mut high: u32 = 0;
-    let mut low: u32 = 0;
-    let mut k: usize = 0;
-    while k < n {
-        high += table[chars[2 * k] as usize];
-        low += table[chars[2 * k + 1] as usize];
-        k += 1;
-    }
-    16 * high + low
-}
-
-// The number that up to four pairs of digits stand for.
-pub fn number_of(table: &[u32; 256], chars: &[u8]) -> u32
-    requires { (table.now ≡ digit_table) × (length chars.now ≤ 8) }
-    ensures { result ≡ number (bytes chars.now) }
-{
-    let n = chars.len() / 2;
-    let mut a: u32 = 0;
-    let mut k: usize = 0;
-    while k < n {
-        a = a * 256 + (byte_of(table, chars[2 * k], chars[2 * k + 1]) as u32);
-        k += 1;
-    }
-    a
+    chars
+        .iter()
+        .position(|c| digit_of(*c) == 16)
+        .unwrap_or(chars.len())
 }
 
 // The number that the first `width` of four bytes stand for, by arithmetic on all four.
@@ -104,7 +100,5 @@ pub fn first_number(a: u8, b: u8, c: u8, d: u8, width: usize) -> u32
     requires { (2 ≤ width) × (width ≤ 4) }
     ensures { result ≡ number (take width (a ∷ b ∷ c ∷ d ∷ [])) }
 {
-    let high = 256 * (a as u32) + b as u32;
-    let low = 256 * (c as u32) + d as u32;
-    (65536 * high + low) >> (8 * (4 - width))
+    u32::from_be_bytes([a, b, c, d]) >> (8 * (4 - width))
 }

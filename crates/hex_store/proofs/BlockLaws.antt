@@ -3,9 +3,9 @@ use mathlib.Core.Path.{◌≡◌, sym, ap, ◌∙◌}
 use Prim.Native.Nat.{ℕ, suc, ◌+◌, ◌-◌, ◌*◌, ◌≤◌, ◌<◌}
 use native.Mathlib.Numerals.{add-one}
 use native.Mathlib.Omega.{arith}
-use mathlib.Core.List.{List, ◌++◌, append_assoc}
-use lib.ListN.{length, get_or, set, take, drop, take-append-drop}
-use lib.Seq.{length-take-le, take_at, drop_at, drop-cons, drop-drop, set_at, append_snoc, take-suc, take-append-add}
+use mathlib.Core.List.{List, ◌++◌, append_assoc, append-nil}
+use lib.ListN.{length, get_or, set, take, drop, take-append-drop, drop_of_length-le}
+use lib.Seq.{length-take-le, take_at, drop_at, drop-cons, drop-drop, set_at, append_snoc, take-suc, take_all, take-append-add}
 use borrow.Rule.Slice.PartMut.{put_mid}
 use Rattle.hex_digits.specs.Digits.{byte_of, bytes}
 use Rattle.hex_digits.proofs.PairLaws.{length_bytes, drop_bytes, take_bytes, byte_at}
@@ -19,6 +19,11 @@ store_turn cs d k e h =
     rw (drop-cons d k 0 h, add-one k, take-suc (bytes cs) k 0 (omega arith), byte_at k cs (omega arith))
     (set_at (take k (bytes cs)) (get_or d k 0) (drop (suc k) d) (byte_of (get_or cs (2 * k) 0) (get_or cs (2 * k + 1) 0)) k l
     ∙ sym (append_snoc (take k (bytes cs)) (byte_of (get_or cs (2 * k) 0) (get_or cs (2 * k + 1) 0)) (drop (suc k) d)))
+
+-- all bytes are stored: the end of `store_pairs`
+pub store_end : (cs d : List ℕ) (k : ℕ) → length cs ≡ 2 * length d → length d ≤ k → take k (bytes cs) ++ drop k d ≡ bytes cs
+store_end cs d k e h =
+    rw (take_all k (bytes cs) (omega (arith, length_bytes (length d) cs e)), drop_of_length-le d h, append-nil)
 
 -- the first i elements and k more
 take_more : (bs : List ℕ) (i k : ℕ) → i ≤ length bs → take (i + k) bs ≡ take i bs ++ take k (drop i bs)

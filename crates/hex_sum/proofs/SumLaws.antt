@@ -1,37 +1,24 @@
 -- Digits, and sums of bytes by blocks.
 use mathlib.Core.Path.{◌≡◌, sym, ap, ◌∙◌}
-use Prim.Native.Nat.{ℕ, zero, suc, ◌+◌, ◌-◌, ◌*◌, ◌/◌, ◌%◌, ◌≤◌, ◌<◌}
+use Prim.Native.Nat.{ℕ, zero, suc, ◌+◌, ◌*◌, ◌/◌, ◌%◌, ◌≤◌}
 use native.Mathlib.Nat.{add_assoc}
-use native.Mathlib.Numerals.{add-one}
 use native.Mathlib.Omega.{arith}
-use mathlib.Core.Bool.{true}
-use mathlib.Core.List.{List, [], ◌∷◌}
-use lib.ListN.{length, get_or, take, drop, take-append-drop}
-use lib.Seq.{drop-cons, drop-drop, length-take-le}
-use Rattle.hex_digits.specs.Digits.{is_hex, bytes, first_bad}
+use mathlib.Core.List.{List, [], ◌∷◌, ◌++◌}
+use lib.ListN.{length, take, drop, take-append-drop}
+use lib.Seq.{drop-drop, length-take-le, take_at, drop_at}
+use Rattle.hex_digits.specs.Digits.{bytes}
 use Rattle.hex_digits.specs.Numbers.{sum}
 use Rattle.hex_digits.specs.Tables.{weighed}
 use Rattle.hex_digits.proofs.DigitLaws.{first_is}
 use Rattle.hex_digits.proofs.DigitTableLaws.{weigh_tells, weigh_sum}
 use Rattle.hex_digits.proofs.PairLaws.{take_bytes, drop_bytes}
 use Rattle.hex_write.proofs.PutLaws.{sum_append}
-use Rattle.hex_sum.specs.Sums.{Tells}
-
--- all are digits
-abbrev pub Digits : List ℕ → Type 0
-Digits cs = length cs ≤ first_bad cs
-
--- a digit before digits: a turn of `has_fault`
-pub digit_turn : (cs : List ℕ) (k : ℕ) → k < length cs → is_hex (get_or cs k 0) ≡ true → Digits (drop (k + 1) cs) → Digits (drop k cs)
-digit_turn cs k l e h = rw (drop-cons cs k 0 l, e) (rw (add-one k) at (suc_le h))
-  where
-    suc_le : {a b : ℕ} → a ≤ b → suc a ≤ suc b
-    suc_le p = omega arith
+use Rattle.hex_sum.specs.Sums.{Tells, AreDigits}
 
 -- ---- one block more
 
 -- digits, then digits
-pub digits_join : (n : ℕ) (cs : List ℕ) → Digits (take n cs) → Digits (drop n cs) → Digits cs
+pub digits_join : (n : ℕ) (cs : List ℕ) → AreDigits (take n cs) → AreDigits (drop n cs) → AreDigits cs
 digits_join zero cs h k = k
 digits_join (suc n) [] h k = k
 digits_join (suc n) (c ∷ cs) h k =
@@ -52,19 +39,19 @@ block_tells cs n s t p q h =
     (digits_join (2 * n) cs a.0 b.0, omega (arith, sum_split n cs, a.1, b.1))
 
 -- a turn of `sum_digits`: whatever tells of what is left tells, with the sum so far, of the whole
-pub block_turn : (cs : List ℕ) (i s b : ℕ) → Tells b (take 32 (drop i cs)) → ((t : ℕ) → Tells t (drop i cs) → Tells (s + t) cs)
-    → (t : ℕ) → Tells t (drop (i + 32) cs) → Tells (s + b + t) cs
-block_turn cs i s b p r t q =
-    rw (add_assoc s b t) (r (b + t) (block_tells (drop i cs) 16 b t p (rw (drop-drop 32 i cs) q)))
+pub block_turn : (cs p rest : List ℕ) (s b : ℕ) → length p ≡ 32 → Tells b p → ((t : ℕ) → Tells t (p ++ rest) → Tells (s + t) cs)
+    → (t : ℕ) → Tells t rest → Tells (s + b + t) cs
+block_turn cs p rest s b h q r t k =
+    rw (add_assoc s b t) (r (b + t) (block_tells (p ++ rest) 16 b t (rw (take_at p rest 32 h) q) (rw (drop_at p rest 32 h) k)))
 
 -- its end: the weight of what is left tells
 pub weight_tells : (cs : List ℕ) → length cs % 2 ≡ 0 → Tells (weighed cs) cs
 weight_tells cs e h =
-    let d : Digits cs = weigh_tells (length cs / 2) cs (omega arith) h in
+    let d : AreDigits cs = weigh_tells (length cs / 2) cs (omega arith) h in
     (d, weigh_sum cs d)
 
 -- a pair, a block of digits whose bytes are at hand, and what is left: the return of `sum_around`
-pub around_tells : (cs : List ℕ) (b t : ℕ) → 34 ≤ length cs → Digits (take 32 (drop 2 cs)) → b ≡ sum (bytes (take 32 (drop 2 cs)))
+pub around_tells : (cs : List ℕ) (b t : ℕ) → 34 ≤ length cs → AreDigits (take 32 (drop 2 cs)) → b ≡ sum (bytes (take 32 (drop 2 cs)))
     → Tells t (drop 34 cs) → Tells (weighed (take 2 cs) + (b + t)) cs
 around_tells cs b t n d e q =
     block_tells cs 1 (weighed (take 2 cs)) (b + t) (weight_tells (take 2 cs) (omega (arith, length-take-le 2 cs (omega arith))))

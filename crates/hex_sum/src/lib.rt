@@ -3,11 +3,15 @@
 
 ghost use Rattle.std.specs.Prelude.{◌≡◌, true, false, not, ◌%◌, ◌^◌, ◌≤◌, length, take, drop};
 ghost use Rattle.hex_digits.specs.Digits.{is_hex, bytes};
-ghost use Rattle.hex_digits.specs.Tables.{digit_table};
 ghost use Rattle.hex_sum.specs.Sums.{Tells, AreDigits};
+
+use hex_read::DigitTable;
 
 // So many characters are looked at together.
 const BLOCK: usize = 32;
+
+// Half of them: the compiler makes better vectors of two halves side by side than of the whole.
+const HALF: usize = BLOCK / 2;
 
 // Is it no hex digit? By arithmetic, as vectors need it.
 fn is_fault(c: u8) -> bool
@@ -19,16 +23,14 @@ fn is_fault(c: u8) -> bool
     !(digit | letter)
 }
 
-// Is one of two times sixteen characters no hex digit?
+// Is a character of either half of a block no hex digit? It looks at each, as vectors need it.
 fn has_fault(a: &[u8], b: &[u8]) -> bool
     requires { (length a.now ≡ 16) × (length b.now ≡ 16) }
     ensures { result ≡ false → AreDigits a.now × AreDigits b.now }
 {
     let mut fault = false;
-    let mut k: usize = 0;
-    while k < 16 {
-        fault = fault | is_fault(a[k]) | is_fault(b[k]);
-        k += 1;
+    for k in 0..HALF {
+        fault |= is_fault(a[k]) | is_fault(b[k]);
     }
     fault
 }
@@ -38,7 +40,7 @@ pub fn are_digits(chars: &[u8]) -> bool
     requires { length chars.now ≡ 32 }
     ensures { result ≡ true → AreDigits chars.now }
 {
-    !has_fault(&chars[0..16], &chars[16..32])
+    !has_fault(&chars[..HALF], &chars[HALF..])
 }
 
 // The sum of the bytes of a block of digits; NONE where a character is no digit.
@@ -54,39 +56,37 @@ fn sum_block(chars: &[u8]) -> u32
 }
 
 // The sum of the bytes that pairs of digits stand for, and at least NONE where a character is no digit: `weigh` for many characters.
-pub fn sum_digits(table: &[u32; 256], chars: &[u8]) -> u32
-    requires { (table.now ≡ digit_table) × (length chars.now ≤ 1024) × (length chars.now % 2 ≡ 0) }
+pub fn sum_digits(table: &DigitTable, chars: &[u8]) -> u32
+    requires { (length chars.now ≤ 1024) × (length chars.now % 2 ≡ 0) }
     ensures { Tells result chars.now × (result ≤ 2 ^ 30) }
 {
-    let n = chars.len();
+    let blocks = chars.chunks_exact(BLOCK);
+    let rest = blocks.remainder();
     let mut sum: u32 = 0;
-    let mut i: usize = 0;
-    while n - i >= BLOCK {
-        let to = i + BLOCK;
-        sum += sum_block(&chars[i..to]);
-        i = to;
+    for block in blocks {
+        sum += sum_block(block);
     }
-    sum + hex_read::weigh(table, &chars[i..n])
+    sum + table.weigh(rest)
 }
 
 // The same, without a call where there is less than a block.
-fn sum_rest(table: &[u32; 256], chars: &[u8]) -> u32
-    requires { (table.now ≡ digit_table) × (length chars.now ≤ 1024) × (length chars.now % 2 ≡ 0) }
+fn sum_rest(table: &DigitTable, chars: &[u8]) -> u32
+    requires { (length chars.now ≤ 1024) × (length chars.now % 2 ≡ 0) }
     ensures { Tells result chars.now × (result ≤ 2 ^ 30) }
 {
     if chars.len() < BLOCK {
-        return hex_read::weigh(table, chars);
+        return table.weigh(chars);
     }
     sum_digits(table, chars)
 }
 
 // The same, where the block after the first pair is known to be digits, and its bytes are at hand.
-pub fn sum_around(table: &[u32; 256], chars: &[u8], block: &[u8]) -> u32
-    requires table_value { (table.now ≡ digit_table) × (34 ≤ length chars.now) × (length chars.now ≤ 1024) × (length chars.now % 2 ≡ 0) }
+pub fn sum_around(table: &DigitTable, chars: &[u8], block: &[u8]) -> u32
+    requires lengths { (34 ≤ length chars.now) × (length chars.now ≤ 1024) × (length chars.now % 2 ≡ 0) }
     requires are_digits { AreDigits (take 32 (drop 2 chars.now)) × (block.now ≡ bytes (take 32 (drop 2 chars.now))) }
     ensures { Tells result chars.now }
 {
-    let first = hex_read::weigh(table, &chars[..2]);
+    let first = table.weigh(&chars[..2]);
     let last = sum_rest(table, &chars[34..]);
     first + (hex_write::sum_bytes(block) + last)
 }

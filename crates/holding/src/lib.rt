@@ -38,10 +38,8 @@ pub fn hold(line: &mut [u8], held: usize, chars: &[u8]) -> usize
 pub fn hide_ends(chars: &mut [u8])
     ensures { chars.new ≡ map visible chars.old }
 {
-    let mut i: usize = 0;
-    while i < chars.len() {
-        chars[i] = seen(chars[i]);
-        i += 1;
+    for c in chars.iter_mut() {
+        *c = seen(*c);
     }
 }
 
@@ -50,24 +48,26 @@ pub fn keep(session: Session, chars: &[u8]) -> Session
     requires { (session.total + length chars.now < 2 ^ 64) × (front is_end chars.now ≡ chars.now) }
     ensures { (result.refusal ≡ session.refusal) × (going_of result ≡ kept_all (going_of session) chars.now) × (result.form ≡ session.form) }
 {
-    let mut s = session;
-    let mut line = s.line;
-    let held = hold(&mut line, s.held, chars);
-    s.total = s.total + chars.len();
-    s.held = held;
-    s.line = line;
-    s
+    let mut line = session.line;
+    let held = hold(&mut line, session.held, chars);
+    Session {
+        total: session.total + chars.len(),
+        held,
+        line,
+        ..session
+    }
 }
 
 // The state where the next record begins, behind so many characters, with the records before it and their header.
 pub fn next_record(session: Session, total: usize, tally: Tally, header: [u8; 252]) -> Session
     ensures { (result.refusal ≡ session.refusal) × (going_of result ≡ fresh session.size total (known_of tally header)) × (result.form ≡ session.form) }
 {
-    let mut s = session;
-    s.total = total;
-    s.place = total;
-    s.tally = tally;
-    s.header = header;
-    s.held = 0;
-    s
+    Session {
+        total,
+        place: total,
+        tally,
+        header,
+        held: 0,
+        ..session
+    }
 }

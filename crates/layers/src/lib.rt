@@ -28,9 +28,7 @@ pub fn join(marks: &mut [u8], others: &[u8])
     requires { length others.now ≡ length marks.old }
     ensures { marks.new ≡ joined marks.old others.now }
 {
-    let mut i: usize = 0;
-    while i < marks.len() {
-        marks[i] = marks[i] | others[i];
-        i += 1;
+    for (i, mark) in marks.iter_mut().enumerate() {
+        *mark |= others[i];
     }
 }

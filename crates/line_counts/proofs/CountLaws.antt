@@ -1,17 +1,16 @@
 -- Where a line ends that is as long as its count says.
-use mathlib.Core.Path.{◌≡◌, sym, ap, ◌∙◌}
+use mathlib.Core.Path.{◌≡◌, sym, ◌∙◌}
 use Prim.Native.Nat.{ℕ, ◌+◌, ◌-◌, ◌*◌, ◌≤◌, ◌<◌}
 use native.Mathlib.Omega.{arith}
 use mathlib.Core.Bool.{Bool}
 use mathlib.Core.List.{List}
 use lib.ListN.{length, get_or, take, drop}
-use lib.Seq.{get_or-take, get_or-drop}
+use lib.Seq.{get_or-take}
 use Rattle.lists.proofs.PartLaws.{part_long}
 use Rattle.hex_digits.specs.Digits.{byte_of}
 use Rattle.hex_digits.proofs.DigitLaws.{value_small}
 use Rattle.text.specs.Lines.{lines}
 use Rattle.text.proofs.FindLaws.{part, from, to, Next, next_at, next_is}
-use Rattle.tape.specs.declared.Edition.{Edition}
 use Rattle.formats.specs.declared.Format.{Format}
 use Rattle.formats.specs.declared.Format.TheVariants.{Records, Tape}
 use Rattle.formats.specs.Choices.{format_of}
@@ -21,22 +20,6 @@ use Rattle.line_counts.specs.Counts.{size_of, LongAsCounted}
 pub size_bounds : (format : Format) (cs : List ℕ) → (4 ≤ size_of format cs) × (size_of format cs ≤ 521)
 size_bounds Records cs = (omega arith, omega (arith, value_small (get_or cs 2 0), value_small (get_or cs 3 0)))
 size_bounds (Tape edition) cs = (omega arith, omega (arith, value_small (get_or cs 1 0), value_small (get_or cs 2 0)))
-
--- the size of the chosen format is that of the format
-pub size_chosen : (format choice : Format) → format ≡ choice → (cs : List ℕ) (r : ℕ) → r ≡ size_of choice cs
-    → (r ≡ size_of format cs) × (4 ≤ r) × (r ≤ 521)
-size_chosen format choice e cs r q =
-    let p : r ≡ size_of format cs = q ∙ ap (λ (x : Format). size_of x cs) (sym e) in
-    let b = size_bounds format cs in
-    (p, omega (arith, b.0), omega (arith, b.1))
-
--- the characters of the count, as they stand in the text
-pub size_records : (text : List ℕ) (i : ℕ) → 4 + 2 * byte_of (get_or text (i + 2) 0) (get_or text (i + 3) 0) ≡ size_of Records (drop i text)
-size_records text i = rw (get_or-drop i text 2 0, get_or-drop i text 3 0)
-
-pub size_tape : (edition : Edition) (text : List ℕ) (i : ℕ)
-    → 11 + 2 * byte_of (get_or text (i + 1) 0) (get_or text (i + 2) 0) ≡ size_of (Tape edition) (drop i text)
-size_tape edition text i = rw (get_or-drop i text 1 0, get_or-drop i text 2 0)
 
 -- of the first characters four decide the size
 size_first : (format : Format) (n : ℕ) (cs : List ℕ) → 4 ≤ n → size_of format (take n cs) ≡ size_of format cs

@@ -17,13 +17,7 @@ const XOFF: u8 = 0x13;
 fn is_one_gap(text: &[u8]) -> bool
     ensures { result ≡ true → LoneEnd text.now }
 {
-    if text.len() < 2 {
-        return false;
-    }
-    if text[0] != b'\n' {
-        return false;
-    }
-    text[1] > XOFF
+    text.len() >= 2 && text[0] == b'\n' && text[1] > XOFF
 }
 
 // How many separators a text begins with.
@@ -33,39 +27,35 @@ pub fn count_gaps(format: Format, text: &[u8]) -> usize
     if is_one_gap(text) {
         return 1;
     }
-    let mut i: usize = 0;
-    while i < text.len() {
-        if !formats::is_gap(format, text[i]) {
+    for (i, c) in text.iter().enumerate() {
+        if !formats::is_gap(format, *c) {
             return i;
         }
-        i += 1;
     }
-    i
+    text.len()
 }
 
 // How many characters a text begins with before a separator.
 pub fn count_chars(format: Format, text: &[u8]) -> usize
     ensures { (result ≡ length (front (format_of format).gap text.now)) × (result ≤ length text.now) }
 {
-    let mut i: usize = 0;
-    while i < text.len() {
-        if formats::is_gap(format, text[i]) {
+    for (i, c) in text.iter().enumerate() {
+        if formats::is_gap(format, *c) {
             return i;
         }
-        i += 1;
     }
-    i
+    text.len()
 }
 
 // The first line from a place on.
-pub fn next_line(format: Format, text: &[u8], at: usize) -> Found
+pub fn next_line(format: Format, text: &[u8], at: usize) -> Option<Found>
     requires { at ≤ length text.now }
     ensures { result ≡ found (lines (format_of format).gap at (drop at text.now)) }
 {
     let from = at + count_gaps(format, &text[at..]);
     if from == text.len() {
-        return Found::Nothing;
+        return None;
     }
     let to = from + count_chars(format, &text[from..]);
-    Found::At { from, to }
+    Some(Found { from, to })
 }

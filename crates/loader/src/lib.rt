@@ -9,8 +9,9 @@ ghost use Rattle.marks.specs.Forms.{marks_left};
 ghost use Rattle.forms.specs.Calls.{load_in, answer_in};
 ghost use Rattle.formats.specs.Choices.{format_of};
 
-use checking::Checked;
+use checking::Accepted;
 use formats::Format;
+use hex_read::DigitTable;
 use marks::Form;
 use window::Loaded;
 
@@ -33,21 +34,22 @@ pub fn load_as(
     if !allowed {
         return answers::refused_answer(window::refuse(1, 0, 0));
     }
-    let table = hex_read::digit_table();
+    let table = DigitTable::new();
     let low = base as usize;
     let size = memory.len();
-    let checked = checking::check(format, &table, text, low, form, marks, size);
-    match checked {
-        Checked::Refused(refusal) => return answers::refused_answer(refusal),
-        Checked::Accepted {
-            entry,
-            records,
-            cells,
-        } => {
+    match checking::check(format, &table, text, low, form, marks, size) {
+        Err(refusal) => answers::refused_answer(refusal),
+        Ok(
+            Accepted {
+                entry,
+                records,
+                cells,
+            },
+        ) => {
             storing::store_all(format, &table, text, low, memory);
             let header = headers::header_of(format, &table, text);
             let count = marks::count(form, marks, cells);
-            return answers::accepted_answer(header, entry, records, count);
+            answers::accepted_answer(header, entry, records, count)
         }
     }
 }

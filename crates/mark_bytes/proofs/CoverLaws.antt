@@ -1,15 +1,14 @@
 -- Two blocks that cover a part between them.
-use mathlib.Core.Path.{◌≡◌, refl, sym, ap, ◌∙◌}
-use mathlib.Core.Bool.{Bool, true, false, ◌&&◌}
+use mathlib.Core.Path.{◌≡◌, refl, ap, ◌∙◌}
+use mathlib.Core.Bool.{true}
 use Prim.Native.Nat.{ℕ, zero, suc, ◌+◌, ◌-◌, ◌≤◌}
-use native.Mathlib.Nat.{zero-add}
 use native.Mathlib.Omega.{arith}
 use mathlib.Core.List.{List, [], ◌∷◌, ◌++◌, append-nil}
 use lib.Dec.{eqb}
 use lib.ListN.{length, take, drop, replicate, length-append, length-drop, length-replicate, replicate-append-replicate, drop_of_length-le}
-use lib.Seq.{take-append-le}
-use Rattle.lists.specs.Lists.{over}
-use Rattle.lists.proofs.TestLaws.{and_both, no_says}
+use lib.Seq.{take-append-le, length-take-le}
+use borrow.Rule.Slice.PartMut.{put_mid}
+use Rattle.lists.proofs.TestLaws.{and_both}
 use Rattle.window.specs.Marks.{is_free}
 
 -- ---- filled
@@ -19,19 +18,22 @@ take_filled zero n v h = refl
 take_filled (suc k) zero v h = absurd (omega arith)
 take_filled (suc k) (suc n) v h = ap (λ (l : List ℕ). v ∷ l) (take_filled k n v (omega arith))
 
--- the first b and the last b of at most 2 b: the return of `cover`
-pub covered : (o : List ℕ) (b v : ℕ) → b ≤ length o → length o ≤ b + b
-    → over (over o 0 (replicate b v)) (length o - b) (replicate b v) ≡ replicate (length o) v
-unfolding over
-covered o b v low high =
-    let own : List ℕ = replicate b v in
-    let long : length own ≡ b = length-replicate b v in
-    let all : length (own ++ drop b o) ≡ length o = length-append own (drop b o) ∙ omega (arith, long, length-drop b o) in
-    let whole : length o - b + b ≡ length o = omega arith in
-    let none : drop (length o) (own ++ drop b o) ≡ [] = drop_of_length-le (own ++ drop b o) {i = length o} (omega (arith, all)) in
-    let front : take (length o - b) (own ++ drop b o) ≡ replicate (length o - b) v
-    = take-append-le (length o - b) own (drop b o) (omega (arith, long)) ∙ take_filled (length o - b) b v (omega arith) in
-    rw (long, zero-add, whole, none, append-nil, front, replicate-append-replicate (length o - b) b v, whole)
+-- a part o, whose first b are x and whose last b are y, both filled: the return of `cover`
+pub covered : (o x y : List ℕ) (b v : ℕ) → b ≤ length o → length o ≤ b + b → x ≡ replicate (length (take b o)) v
+    → (let l : List ℕ = x ++ drop b o in let at : ℕ = length o - b in
+    y ≡ replicate (length (take (length l - at) (drop at l))) v → put_mid at (length l - at) l y ≡ replicate (length o) v)
+covered o x y b v low high p q =
+    let x-is : x ≡ replicate b v = rw length-take-le at p in
+    let at : ℕ = length o - b in
+    let all : length (x ++ drop b o) ≡ length o = omega (arith, length-append x (drop b o), length-drop b o, ap length x-is, length-replicate b v) in
+    let own : at + b ≡ length o = omega arith in
+    let last : length o - at ≡ b = omega arith in
+    let long : length (take (length (x ++ drop b o) - at) (drop at (x ++ drop b o))) ≡ b
+    = rw (all, last, length-take-le b (drop at (x ++ drop b o)) (omega (arith, all, length-drop at (x ++ drop b o)))) in
+    let y-is : y ≡ replicate b v = rw long at q in
+    let front : take at (x ++ drop b o) ≡ replicate at v = rw x-is (take-append-le at (replicate b v) (drop b o) (omega (arith, length-replicate b v)) ∙ take_filled at b v (omega arith)) in
+    let none : drop b (drop at (x ++ drop b o)) ≡ [] = drop_of_length-le (drop at (x ++ drop b o)) {i = b} (omega (arith, all, length-drop at (x ++ drop b o))) in
+    rw (all, last, front, y-is, none, append-nil, replicate-append-replicate at b v, own)
 
 -- ---- free
 
@@ -43,13 +45,3 @@ free_from (suc k) (suc n) [] h f = refl
 free_from (suc k) (suc n) (m ∷ ms) h f =
     let p = and_both (eqb m 0) (is_free (take n ms)) f in
     rw p.0 (free_from k n ms (omega arith) p.1)
-
--- if the first are not free, all are not
-pub first_taken : (n : ℕ) (ms : List ℕ) → is_free (take n ms) ≡ false → is_free ms ≡ false
-first_taken zero ms f = no_says (sym f)
-first_taken (suc n) [] f = f
-first_taken (suc n) (m ∷ ms) f = by_first (eqb m 0) (is_free (take n ms)) (is_free ms) (first_taken n ms) f
-  where
-    by_first : (a b c : Bool) → (b ≡ false → c ≡ false) → a && b ≡ false → a && c ≡ false
-    by_first true b c h e = h e
-    by_first false b c h e = refl

@@ -1,3 +1,3 @@
 pub mod MarkSearchLaws
-pub mod BadLaws
+pub mod OrLaws
 pub mod CoverLaws

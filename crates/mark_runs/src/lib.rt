@@ -1,7 +1,7 @@
 // Runs of marks of one byte a cell: whether none is set, where the next set one stands, and the next that is not.
 #![tactic(auto)]
 
-ghost use Rattle.std.specs.Prelude.{◌≡◌, true, ◌+◌, ◌*◌, ◌≤◌, ◌<◌, length, take, drop};
+ghost use Rattle.std.specs.Prelude.{◌≡◌, true, ◌+◌, ◌≤◌, length, take, drop};
 ghost use Rattle.window.specs.Marks.{is_free};
 ghost use Rattle.window.specs.Walks.{unmarked, run};
 
@@ -20,15 +20,13 @@ fn skip_free(marks: &[u8], at: usize) -> usize
     requires { at ≤ length marks.now }
     ensures { (result ≤ length marks.now) × (result + unmarked (drop result marks.now) ≡ at + unmarked (drop at marks.now)) }
 {
-    let mut i = at;
-    while BLOCK <= marks.len() - i {
-        let next = i + BLOCK;
-        if !is_free(&marks[i..next]) {
-            return i;
+    for k in 0..(marks.len() - at) / BLOCK {
+        let from = at + BLOCK * k;
+        if !is_free(&marks[from..from + BLOCK]) {
+            return from;
         }
-        i = next;
     }
-    i
+    marks.len() - (marks.len() - at) % BLOCK
 }
 
 // The same for the cells of a record: the first block and the last cover up to two, with lengths that the compiler knows.
@@ -36,17 +34,10 @@ pub fn all_free(part: &[u8]) -> bool
     ensures { result ≡ is_free part.now }
 {
     let n = part.len();
-    if n < BLOCK {
+    if n < BLOCK || n > 2 * BLOCK {
         return is_free(part);
     }
-    if n > 2 * BLOCK {
-        return is_free(part);
-    }
-    let last = n - BLOCK;
-    if !is_free(&part[0..BLOCK]) {
-        return false;
-    }
-    is_free(&part[last..n])
+    is_free(&part[..BLOCK]) && is_free(&part[n - BLOCK..])
 }
 
 // The index of the first mark byte from `at` on that is set, or the number of marks.
@@ -54,30 +45,17 @@ pub fn next_byte(marks: &[u8], at: usize) -> usize
     requires { at ≤ length marks.now }
     ensures { result ≡ at + unmarked (drop at marks.now) }
 {
-    let mut i = skip_free(marks, at);
-    while i < marks.len() {
-        if marks[i] != 0 {
-            return i;
-        }
-        i += 1;
-    }
-    i
+    let from = skip_free(marks, at);
+    let rest = &marks[from..];
+    let ahead = rest.iter().position(|mark| *mark != 0);
+    from + ahead.unwrap_or(rest.len())
 }
 
 // Is a part a block whose marks have a bit in common? Then each is set. A no says nothing.
 fn is_full(part: &[u8]) -> bool
     ensures { result ≡ true → run part.now ≡ length part.now }
 {
-    if part.len() != BLOCK {
-        return false;
-    }
-    let mut all: u8 = 255;
-    let mut i: usize = 0;
-    while i < BLOCK {
-        all = all & part[i];
-        i += 1;
-    }
-    all != 0
+    part.len() == BLOCK && part.iter().fold(255, |all, mark| all & *mark) != 0
 }
 
 // The index of the first mark byte from `at` on, below `to`, that is not set; `to` where there is none.
@@ -85,37 +63,12 @@ pub fn end_byte(marks: &[u8], at: usize, to: usize) -> usize
     requires { (at ≤ to) × (to ≤ length marks.now) }
     ensures { result ≡ at + run (drop at (take to marks.now)) }
 {
-    if is_full(&marks[at..to]) {
+    let part = &marks[at..to];
+    if is_full(part) {
         return to;
     }
-    let mut i = at;
-    while i < to {
-        if marks[i] == 0 {
-            return i;
-        }
-        i += 1;
-    }
-    to
-}
-
-// Eight marks that are 1, as a number.
-const ONES: u64 = 0x0101_0101_0101_0101;
-
-// Four bytes as one number, the first lowest.
-fn four(a: u8, b: u8, c: u8, d: u8) -> u64
-    ensures { (result ≡ a + 256 * b + 65536 * c + 16777216 * d) × (result < 4294967296) }
-{
-    a as u64 + 256 * (b as u64) + 65536 * (c as u64) + 16777216 * (d as u64)
-}
-
-// Are eight marks all 1? They are seen as one number, of which the compiler makes one read.
-fn are_ones(part: &[u8]) -> bool
-    requires { length part.now ≡ 8 }
-    ensures { result ≡ true → run part.now ≡ 8 }
-{
-    let low = four(part[0], part[1], part[2], part[3]);
-    let high = four(part[4], part[5], part[6], part[7]);
-    low + 4294967296 * high == ONES
+    let ahead = part.iter().position(|mark| *mark == 0);
+    at + ahead.unwrap_or(part.len())
 }
 
 // Are a block of marks from `at` on all 1? A no says nothing.
@@ -123,13 +76,8 @@ pub fn is_row(marks: &[u8], at: usize) -> bool
     requires { at ≤ length marks.now }
     ensures { result ≡ true → (at + 16 ≤ length marks.now) × (run (drop at (take (at + 16) marks.now)) ≡ 16) }
 {
-    if marks.len() - at < BLOCK {
+    let Some(block) = marks[at..].first_chunk::<BLOCK>() else {
         return false;
-    }
-    let middle = at + 8;
-    let end = at + BLOCK;
-    if !are_ones(&marks[at..middle]) {
-        return false;
-    }
-    are_ones(&marks[middle..end])
+    };
+    *block == [1; BLOCK]
 }

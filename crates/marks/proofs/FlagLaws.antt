@@ -1,14 +1,14 @@
 -- What the loops over mark bytes and over packed marks find, as runs of flags, and as row 16. The form is known at each place.
 use mathlib.Core.Path.{◌≡◌, refl, sym, ap, ◌∙◌}
-use Prim.Native.Nat.{ℕ, zero, suc, ◌+◌, ◌-◌, ◌*◌, ◌≤◌, ◌<◌, min}
+use Prim.Native.Nat.{ℕ, zero, suc, ◌+◌, ◌-◌, ◌*◌, ◌≤◌, min}
 use native.Mathlib.Nat.{zero-add}
 use native.Mathlib.Omega.{arith}
-use mathlib.Core.Bool.{true, false, not}
+use mathlib.Core.Bool.{true, false}
 use mathlib.Core.List.{List, [], ◌∷◌}
-use lib.Dec.{eqb, ltb}
-use lib.ListN.{length, get_or, take, drop, length-drop}
-use lib.Seq.{take-nil, drop-cons}
-use borrow.Author.Tests.{ne_eqb, eqb-true, eqb-false, lt-ltb, le-ltb}
+use lib.Dec.{eqb}
+use lib.ListN.{length, take, drop, length-drop}
+use lib.Seq.{take-nil}
+use borrow.Author.Tests.{eqb-true, eqb-false, lt-ltb}
 use Rattle.lists.proofs.TestLaws.{by_test}
 use Rattle.lists.proofs.PartLaws.{drop_take, take_least}
 use Rattle.window.specs.Marks.{is_free}
@@ -58,14 +58,6 @@ free_found n ms from to r h k q =
     by_test (eqb r to) (λ t. t ∙ sym (free n ms from (to - from) to e k r q (omega (arith, eqb-true r to t))))
     (λ t. let l = eqb-false r to t in
     t ∙ sym (taken n ms from (to - from) to e k r q (omega (arith, l, gap_inside (bits ms from (to - from)), length_bits ms from (to - from)))))
-
--- a marked cell is a run of at least one cell, and no other is
-pub marked_at : (fs : List ℕ) (at end : ℕ) → at < length fs → end ≡ at + run_on 1 (drop at fs) → ltb at end ≡ not (eqb (get_or fs at 0) 0)
-marked_at fs at end h e = go (get_or fs at 0) (e ∙ ap (λ (x : List ℕ). at + run_on 1 x) (drop-cons fs at 0 h))
-  where
-    go : (m : ℕ) → end ≡ at + run_on 1 (m ∷ drop (suc at) fs) → ltb at end ≡ not (eqb m 0)
-    go zero q = le-ltb at end (omega arith)
-    go (suc m) q = lt-ltb at end (omega arith) ∙ rw (ne_eqb (suc m) 0 (λ z. omega arith))
 
 -- ---- row 16 of packed marks
 

@@ -16,7 +16,7 @@ use Rattle.bits.proofs.PackLaws.{length_bits, Binary, binary_bits, binary_marks,
 use Rattle.bits.proofs.SpareLaws.{spare_free, pack_spare}
 use Rattle.marks.specs.declared.Form.{Form}
 use Rattle.marks.specs.declared.Form.TheVariants.{Bytes, Packed}
-use Rattle.marks.specs.declared.Bad.TheVariants.{At, Nothing}
+use Rattle.std.specs.Prelude.{Some, None}
 use Rattle.marks.specs.Forms.{flags, mark_bytes, stored, Tidy, marks_in, row16_in, bad_at, bad_mark}
 
 -- ---- what is stored is read back
@@ -114,16 +114,16 @@ module _ (form : Form) (img : Image) (n : ℕ) (long : length img ≡ n) (ms : L
 
 module _ (form : Form) (n : ℕ) (ms : List ℕ) where
   -- it applies, at its place
-  pub bad_at_lem : (place : ℕ) → At place ≡ bad_mark form n ms → (row16_in form n ms ≡ true) × (place ≡ bad_at form n ms)
+  pub bad_at_lem : (place : ℕ) → Some place ≡ bad_mark form n ms → (row16_in form n ms ≡ true) × (place ≡ bad_at form n ms)
   bad_at_lem place q =
-      by_test (row16_in form n ms) (λ t. let p : At place ≡ At (bad_at form n ms) = q ∙ rw t in (t, cc))
-      (λ t. absurd (let p : At place ≡ Nothing = q ∙ rw t in let z : ◌≡◌ {A = ℕ} 0 1 = cc in omega arith))
+      by_test (row16_in form n ms) (λ t. let p : Some place ≡ Some (bad_at form n ms) = q ∙ rw t in (t, cc))
+      (λ t. absurd (let p : Some place ≡ None = q ∙ rw t in let z : ◌≡◌ {A = ℕ} 0 1 = cc in omega arith))
 
   -- it does not apply
-  pub no_bad : Nothing ≡ bad_mark form n ms → row16_in form n ms ≡ false
+  pub no_bad : None ≡ bad_mark form n ms → row16_in form n ms ≡ false
   no_bad q =
       by_test (row16_in form n ms)
-      (λ t. absurd (let p : Nothing ≡ At (bad_at form n ms) = q ∙ rw t in let z : ◌≡◌ {A = ℕ} 0 1 = cc in omega arith)) (λ t. t)
+      (λ t. absurd (let p : None ≡ Some (bad_at form n ms) = q ∙ rw t in let z : ◌≡◌ {A = ℕ} 0 1 = cc in omega arith)) (λ t. t)
 
 -- where it does not apply, no flag is above 1
 pub flags_good : (form : Form) (n : ℕ) (ms : List ℕ) → row16_in form n ms ≡ false → row16 (flags form n ms) ≡ false

@@ -9,8 +9,8 @@ use Rattle.window.specs.Plans.Outcome.{refused, accepted}
 use Rattle.bits.specs.Bits.{bits, spare, byte_count, pack, ones_of}
 use Rattle.marks.specs.declared.Form.{Form}
 use Rattle.marks.specs.declared.Form.TheVariants.{Bytes, Packed}
-use Rattle.marks.specs.declared.Bad.{Bad}
-use Rattle.marks.specs.declared.Bad.TheVariants.{At, Nothing}
+use Rattle.std.specs.Prelude.{Option}
+use Rattle.std.specs.Prelude.{Some, None}
 
 -- what marks in a form say of each cell of a window: 0 for a cell that was not addressed
 abbrev pub flags : Form → ℕ → List ℕ → List ℕ
@@ -65,5 +65,5 @@ bad_at Bytes cells marks = first_bad_mark marks
 bad_at Packed cells marks = cells
 
 -- row 16 with its place
-abbrev pub bad_mark : Form → ℕ → List ℕ → Bad
-bad_mark form cells marks = cond (row16_in form cells marks) (At (bad_at form cells marks)) Nothing
+abbrev pub bad_mark : Form → ℕ → List ℕ → Option ℕ
+bad_mark form cells marks = cond (row16_in form cells marks) (Some (bad_at form cells marks)) None

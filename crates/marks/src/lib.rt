@@ -14,13 +14,6 @@ pub enum Form {
     Packed,
 }
 
-// Where row 16 finds a bad mark.
-#[derive(Clone, Copy)]
-pub enum Bad {
-    At(usize),
-    Nothing,
-}
-
 // Behind the last address.
 const TOP: usize = 1 << 32;
 
@@ -49,7 +42,7 @@ pub fn is_allowed(form: Form, base: u32, memory: &[u8], marks: &[u8]) -> bool
 pub fn clear(marks: &mut [u8])
     ensures { marks.new ≡ replicate (length marks.old) 0 }
 {
-    mark_bytes::fill(marks, 0);
+    marks.fill(0);
 }
 
 // Clears the bits that stand for no cell.
@@ -67,28 +60,27 @@ pub fn tidy(form: Form, marks: &mut [u8], cells: usize)
 pub fn smaller(a: usize, b: usize) -> usize
     ensures { result ≡ min a b }
 {
-    if a < b { a } else { b }
+    a.min(b)
 }
 
-// Row 16, with its place.
-pub fn first_bad(form: Form, marks: &[u8], cells: usize) -> Bad
+// Row 16: the place of the first bad mark.
+pub fn first_bad(form: Form, marks: &[u8], cells: usize) -> Option<usize>
     requires { (cells ≤ 2 ^ 32) × (length marks.now ≡ mark_bytes form cells) }
     ensures { result ≡ bad_mark form cells marks.now }
 {
     match form {
         Form::Bytes => {
             if !mark_bytes::has_bad(marks) {
-                return Bad::Nothing;
+                return None;
             }
-            let place = mark_bytes::bad_byte(marks);
-            return Bad::At(place);
+            return Some(mark_bytes::bad_byte(marks));
         }
         Form::Packed => {
             let end = 8 * marks.len();
             if bit_runs::next_set(marks, cells, end) == end {
-                return Bad::Nothing;
+                return None;
             }
-            return Bad::At(cells);
+            return Some(cells);
         }
     }
 }

@@ -41,8 +41,8 @@ fn merged_entry(base: Entry, patch: Entry) -> Entry
     ensures { result ≡ laid is_present base patch }
 {
     match patch {
-        Entry::Absent => base,
-        Entry::Present(_) => patch,
+        None => base,
+        Some(_) => patch,
     }
 }
 
@@ -53,7 +53,7 @@ fn refused(refusal: Refusal) -> Merged
     Merged {
         refusal,
         header: window::no_header(),
-        entry: Entry::Absent,
+        entry: None,
     }
 }
 

@@ -40,8 +40,5 @@ pub extern "C" fn srec_merge(
         patch_header,
         patch_start,
     );
-    let refusal = merged.refusal;
-    let merged_header = merged.header;
-    let merged_entry = merged.entry;
-    c_answers::bare_answer(refusal, merged_header, merged_entry)
+    c_answers::bare_answer(merged.refusal, merged.header, merged.entry)
 }

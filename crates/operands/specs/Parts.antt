@@ -1,30 +1,31 @@
 -- Parts of an expression put together, as the reading functions do it.
-use Rattle.std.specs.Prelude.{ℕ, ◌+◌, ◌-◌, ◌^◌, cond, List, leb, ltb, eqb, get_or}
+use Rattle.std.specs.Prelude.{ℕ, ◌+◌, ◌-◌, ◌^◌, cond, List, leb, ltb, eqb, get_or, Option, Some, None, Result, Ok, Err}
 use Rattle.lists.specs.Characters.{char}
 use Rattle.operands.specs.declared.Part.{Part}
-use Rattle.operands.specs.Values.{refused, part_of}
+use Rattle.operands.specs.declared.ValueError.{ValueError}
+use Rattle.operands.specs.declared.ValueError.TheVariants.{UnknownName, OutOfRange}
 
--- behind a part of the form stands the closing bracket
-unfoldable pub closed : List ℕ → Part → Part
-closed s p =
-    cond (eqb p.row 25) p
-    (cond (eqb (get_or s p.next 0) (char ")")) (record { row = p.row; value = p.value; next = p.next + 1 }) (part_of (refused 25) 0))
+-- behind a part stands the closing bracket
+unfoldable pub closed : List ℕ → Part → Option Part
+closed s p = cond (eqb (get_or s p.next 0) (char ")")) (Some (record { value = p.value; next = p.next + 1 })) None
 
 -- a sum, or row 27
-abbrev pub sum_part : ℕ → ℕ → ℕ → Part
-sum_part a b next = cond (ltb (a + b) (2 ^ 32)) (record { row = 0; value = a + b; next = next }) (part_of (refused 27) next)
+abbrev pub sum_value : ℕ → ℕ → Result ℕ ValueError
+sum_value v w = cond (ltb (v + w) (2 ^ 32)) (Ok (v + w)) (Err OutOfRange)
 
 -- a difference, or row 27
-abbrev pub difference_part : ℕ → ℕ → ℕ → Part
-difference_part a b next = cond (leb b a) (record { row = 0; value = a - b; next = next }) (part_of (refused 27) next)
+abbrev pub difference_value : ℕ → ℕ → Result ℕ ValueError
+difference_value v w = cond (leb w v) (Ok (v - w)) (Err OutOfRange)
 
--- two parts of the form under a sign: row 26 of either, row 27 of either, then the result
-unfoldable pub joined : Part → ℕ → Part → Part
-joined a sign b =
-    let no_name = part_of (refused 26) b.next in
-    let over = part_of (refused 27) b.next in
-    cond (eqb a.row 26) no_name
-    (cond (eqb b.row 26) no_name
-    (cond (eqb a.row 27) over
-    (cond (eqb b.row 27) over
-    (cond (eqb sign (char "+")) (sum_part a.value b.value b.next) (difference_part a.value b.value b.next)))))
+-- two values under a sign: row 26 of either, row 27 of either, then the result
+abbrev pub joined_value : Result ℕ ValueError → ℕ → Result ℕ ValueError → Result ℕ ValueError
+joined_value (Err UnknownName) sign y = Err UnknownName
+joined_value (Err OutOfRange) sign (Err UnknownName) = Err UnknownName
+joined_value (Err OutOfRange) sign (Err OutOfRange) = Err OutOfRange
+joined_value (Err OutOfRange) sign (Ok w) = Err OutOfRange
+joined_value (Ok v) sign (Err e) = Err e
+joined_value (Ok v) sign (Ok w) = cond (eqb sign (char "+")) (sum_value v w) (difference_value v w)
+
+-- two parts under a sign
+abbrev pub joined : Part → ℕ → Part → Part
+joined a sign b = record { value = joined_value a.value sign b.value; next = b.next }

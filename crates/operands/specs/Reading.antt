@@ -3,8 +3,8 @@
 use Rattle.std.specs.Prelude.{ℕ, zero, suc, ◌+◌, Bool, cond, ◌||◌, List, ltb, eqb, length, get_or, take, drop}
 use Rattle.std.proofs.Math.Option.{Option, none, some}
 use Rattle.lists.specs.Characters.{char}
-use Rattle.words.specs.declared.Class.TheVariants.{Alnum, Hex}
-use Rattle.words.specs.Words.{is_letter, counted, number_in}
+use Rattle.hex_digits.specs.Digits.{is_hex}
+use Rattle.words.specs.Words.{is_letter, counted, number_in, is_alnum}
 use Rattle.operands.specs.Trees.{Tree, operation}
 use Rattle.operands.specs.Trees.Tree.{number, name}
 
@@ -15,7 +15,7 @@ pub data Read : Type 0 where
 
 -- how many hex digits stand there, one after the other
 unfoldable pub digits_at : List ℕ → ℕ → ℕ
-digits_at s at = counted Hex (drop at s)
+digits_at s at = counted is_hex (drop at s)
 
 -- a number behind its `$`: "1 to 8 hex digits", as many as there are
 unfoldable pub number_at : List ℕ → ℕ → Read
@@ -25,7 +25,7 @@ number_at s at =
 
 -- how many letters and digits stand there, one after the other
 unfoldable pub word_at : List ℕ → ℕ → ℕ
-word_at s at = counted Alnum (drop at s)
+word_at s at = counted is_alnum (drop at s)
 
 -- a name where a letter stands, as `term_by` sees to: at most 16 letters and digits, as many as there are
 unfoldable pub name_at : List ℕ → ℕ → Read

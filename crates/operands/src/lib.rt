@@ -3,36 +3,60 @@
 
 ghost use Rattle.std.specs.Prelude.{◌≡◌, [], ◌≤◌, length};
 ghost use Rattle.symbol_table.specs.Symbols.{symbols_in};
+ghost use Rattle.operands.specs.declared.ExpressionError.TheVariants.{NoValue};
 ghost use Rattle.operands.specs.Reading.{number_at, name_at, is_sign};
-ghost use Rattle.operands.specs.Values.{told};
-ghost use Rattle.operands.specs.Parts.{closed, sum_part, difference_part, joined};
-
-use words::Class;
+ghost use Rattle.operands.specs.Values.{told, row_of};
+ghost use Rattle.operands.specs.Parts.{closed, joined};
 
 // A name has at most so many characters, and a number so many digits.
 const NAME: usize = 16;
 
 const DIGITS: usize = 8;
 
-// The largest result.
-const MOST: u32 = 4_294_967_295;
+// Why a part that has the form has no value: a name is no symbol, or a result lies outside 0 to 4,294,967,295.
+#[derive(Clone, Copy)]
+pub enum ValueError {
+    UnknownName,
+    OutOfRange,
+}
 
-// What a part of an expression is worth, its row (25, 26, 27, or 0 for none), and the place behind it; 0 behind what has not the form.
+// Why an expression is refused: it has not the form, or it has no value.
+#[derive(Clone, Copy)]
+pub enum ExpressionError {
+    Malformed,
+    NoValue(ValueError),
+}
+
+impl ExpressionError {
+    // The number of the row.
+    pub fn row(self) -> u32
+        ensures { result ≡ row_of self }
+    {
+        match self {
+            ExpressionError::Malformed => 25,
+            ExpressionError::NoValue(ValueError::UnknownName) => 26,
+            ExpressionError::NoValue(ValueError::OutOfRange) => 27,
+        }
+    }
+}
+
+impl From<ValueError> for ExpressionError {
+    ghost from_gives = { λ v e. e ≡ NoValue v };
+
+    fn from(error: ValueError) -> ExpressionError {
+        ExpressionError::NoValue(error)
+    }
+}
+
+// A part of an expression: what it is worth, and the place behind it.
 #[derive(Clone, Copy)]
 pub struct Part {
-    pub row: u8,
-    pub value: u32,
+    pub value: Result<u32, ValueError>,
     pub next: usize,
 }
 
-// What an expression is worth, and its row; the value of a refused one is 0.
-#[derive(Clone, Copy)]
-pub struct Worth {
-    pub row: u8,
-    pub value: u32,
-}
-
 // `+` or `-`?
+#[tactic(auto, unfolding(crate::specs::Reading::is_sign))]
 pub fn is_sign(c: u8) -> bool
     ensures { result ≡ is_sign c }
 {
@@ -40,147 +64,71 @@ pub fn is_sign(c: u8) -> bool
 }
 
 // One to eight hex digits at `at`.
-pub fn number(text: &[u8], at: usize) -> Part
+#[tactic(auto, using(lists::proofs::PartLaws::rest), unfolding(crate::specs::Reading::number_at, crate::specs::Reading::digits_at, crate::specs::Values::verdict))]
+pub fn number(text: &[u8], at: usize) -> Option<Part>
     requires { at ≤ length text.now }
     ensures { result ≡ told [] (number_at text.now at) }
 {
-    let n = words::count(Class::Hex, &text[at..]);
-    if n == 0 {
-        return Part {
-            row: 25,
-            value: 0,
-            next: 0,
-        };
+    let n = words::count(words::is_hex, &text[at..]);
+    if n == 0 || DIGITS < n {
+        return None;
     }
-    if DIGITS < n {
-        return Part {
-            row: 25,
-            value: 0,
-            next: 0,
-        };
-    }
-    Part {
-        row: 0,
-        value: words::number(&text[at..at + n]),
-        next: at + n,
-    }
+    let next = at + n;
+    Some(Part {
+        value: Ok(words::number(&text[at..next])),
+        next,
+    })
 }
 
 // A name of up to 16 characters at `at`, looked up in the table.
-pub fn name(text: &[u8], table: &[u8], at: usize) -> Part
+#[tactic(auto, using(lists::proofs::PartLaws::rest), unfolding(crate::specs::Reading::name_at, crate::specs::Reading::word_at, crate::specs::Values::verdict))]
+pub fn name(text: &[u8], table: &[u8], at: usize) -> Option<Part>
     requires { at ≤ length text.now }
     ensures { result ≡ told (symbols_in table.now) (name_at text.now at) }
 {
-    let n = words::count(Class::Alnum, &text[at..]);
+    let n = words::count(words::is_alnum, &text[at..]);
     if NAME < n {
-        return Part {
-            row: 25,
-            value: 0,
-            next: 0,
-        };
+        return None;
     }
-    let found = symbol_table::find(table, &text[at..at + n]);
-    if found.known {
-        return Part {
-            row: 0,
-            value: found.value,
-            next: at + n,
-        };
-    }
-    Part {
-        row: 26,
-        value: 0,
-        next: at + n,
-    }
+    let next = at + n;
+    let value = symbol_table::find(table, &text[at..next]).ok_or(ValueError::UnknownName);
+    Some(Part { value, next })
 }
 
 // A sum in brackets is followed by the closing one.
-pub fn close(text: &[u8], inner: Part) -> Part
+#[tactic(auto, using(std::proofs::lemmas::Grind::common_steps), unfolding(crate::specs::Parts::closed))]
+pub fn close(text: &[u8], inner: Part) -> Option<Part>
     ensures { result ≡ closed text.now inner }
 {
-    if inner.row == 25 {
-        return inner;
-    }
-    let at = inner.next;
-    if text.len() <= at {
-        return Part {
-            row: 25,
-            value: 0,
-            next: 0,
-        };
-    }
-    if text[at] != b')' {
-        return Part {
-            row: 25,
-            value: 0,
-            next: 0,
-        };
-    }
-    Part {
-        row: inner.row,
-        value: inner.value,
-        next: at + 1,
+    match text.get(inner.next) {
+        Some(b')') => Some(Part {
+            next: inner.next + 1,
+            ..inner
+        }),
+        _ => None,
     }
 }
 
-// A part that a row refuses.
-fn refuse(row: u8, next: usize) -> Part
-    ensures { result ≡ record { row = row; value = 0; next = next } }
-{
-    Part {
-        row,
-        value: 0,
-        next,
-    }
-}
-
-// A sum, or row 27.
-fn add(a: u32, b: u32, next: usize) -> Part
-    ensures { result ≡ sum_part a b next }
-{
-    if MOST - a < b {
-        return refuse(27, next);
-    }
-    Part {
-        row: 0,
-        value: a + b,
-        next,
-    }
-}
-
-// A difference, or row 27.
-fn subtract(a: u32, b: u32, next: usize) -> Part
-    ensures { result ≡ difference_part a b next }
-{
-    if a < b {
-        return refuse(27, next);
-    }
-    Part {
-        row: 0,
-        value: a - b,
-        next,
-    }
-}
-
-// Two parts of the form under a sign: names come before sums.
+// Two parts under a sign: names come before sums.
 pub fn join(a: Part, sign: u8, b: Part) -> Part
     ensures { result ≡ joined a sign b }
 {
-    let next = b.next;
-    if a.row == 26 {
-        return refuse(26, next);
+    let value = match (a.value, b.value) {
+        (Err(ValueError::UnknownName), _) | (_, Err(ValueError::UnknownName)) => {
+            Err(ValueError::UnknownName)
+        }
+        (Ok(x), Ok(y)) => {
+            let result = if sign == b'+' {
+                x.checked_add(y)
+            } else {
+                x.checked_sub(y)
+            };
+            result.ok_or(ValueError::OutOfRange)
+        }
+        _ => Err(ValueError::OutOfRange),
+    };
+    Part {
+        value,
+        next: b.next,
     }
-    if b.row == 26 {
-        return refuse(26, next);
-    }
-    if a.row == 27 {
-        return refuse(27, next);
-    }
-    if b.row == 27 {
-        return refuse(27, next);
-    }
-    if sign == b'+' {
-        return add(a.value, b.value, next);
-    }
-    subtract(a.value, b.value, next)
 }

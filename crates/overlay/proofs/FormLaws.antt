@@ -8,12 +8,12 @@ use lib.Dec.{eqb}
 use lib.ListN.{length}
 use borrow.Author.Tests.{eqb-true}
 use Rattle.lists.proofs.TestLaws.{or_neither}
-use Rattle.window.specs.declared.Entry.{Entry}
+use Rattle.window.specs.Entries.{Entry}
 use Rattle.window.specs.Windows.{Window, window_of}
 use Rattle.marks.specs.declared.Form.{Form}
 use Rattle.marks.specs.declared.Form.TheVariants.{Bytes}
-use Rattle.marks.specs.declared.Bad.{Bad}
-use Rattle.marks.specs.declared.Bad.TheVariants.{At, Nothing}
+use Rattle.std.specs.Prelude.{Option}
+use Rattle.std.specs.Prelude.{Some, None}
 use Rattle.marks.specs.Forms.{flags, plain, row1_in}
 use Rattle.marks.proofs.FormLaws.{no_bad, flags_good}
 use Rattle.marks.proofs.RowLaws.{plain_allowed}
@@ -27,14 +27,14 @@ use Rattle.overlay.proofs.RefusalLaws.{row_1_both}
 -- ---- the rows
 
 -- the first row that applies, where that is neither 1 nor 16, is that of other tests that pass where these do
-pub same_row : (unfit unfit' long : Bool) (b b' p p' : Bad) → (unfit ≡ false → unfit' ≡ false) → (Nothing ≡ b → Nothing ≡ b') → (Nothing ≡ p → Nothing ≡ p')
+pub same_row : (unfit unfit' long : Bool) (b b' p p' : Option ℕ) → (unfit ≡ false → unfit' ≡ false) → (None ≡ b → None ≡ b') → (None ≡ p → None ≡ p')
     → ((first_row unfit long b p).reason ≡ 1 → ⊥) → ((first_row unfit long b p).reason ≡ 16 → ⊥) → first_row unfit long b p ≡ first_row unfit' long b' p'
 unfolding first_row
 same_row true u long b b' p p' f g h x y = absurd (x refl)
 same_row false u true b b' p p' f g h x y = rw (f refl)
-same_row false u false (At place) b' p p' f g h x y = absurd (y refl)
-same_row false u false Nothing b' (At place) p' f g h x y = absurd (y refl)
-same_row false u false Nothing b' Nothing p' f g h x y = rw (f refl, ← (g refl), ← (h refl))
+same_row false u false (Some place) b' p p' f g h x y = absurd (y refl)
+same_row false u false None b' (Some place) p' f g h x y = absurd (y refl)
+same_row false u false None b' None p' f g h x y = rw (f refl, ← (g refl), ← (h refl))
 
 module _ (form : Form) (B P : Window) where
   -- row 1 does not apply to the flags either
@@ -46,7 +46,7 @@ module _ (form : Form) (B P : Window) where
       rw (plain_allowed form B s.0, plain_allowed form P t.0, t.1)
 
 -- nor does row 16
-plain_clean : (form : Form) (W : Window) → Nothing ≡ bad_of form W → Nothing ≡ bad_in (plain form W)
+plain_clean : (form : Form) (W : Window) → None ≡ bad_of form W → None ≡ bad_in (plain form W)
 plain_clean form W e =
     rw (flags_good form (length W.memory) W.marks (no_bad form (length W.memory) W.marks e))
 

@@ -13,8 +13,8 @@ use Rattle.window.specs.Headers.{row15}
 use Rattle.window.specs.Plans.{refusal, passes}
 use Rattle.marks.specs.declared.Form.{Form}
 use Rattle.marks.specs.declared.Form.TheVariants.{Bytes}
-use Rattle.marks.specs.declared.Bad.{Bad}
-use Rattle.marks.specs.declared.Bad.TheVariants.{At, Nothing}
+use Rattle.std.specs.Prelude.{Option}
+use Rattle.std.specs.Prelude.{Some, None}
 use Rattle.marks.specs.Forms.{plain, mark_bytes, row1_in}
 use Rattle.marks.proofs.FormLaws.{flags_length, no_bad}
 use Rattle.marks.proofs.RowLaws.{row_1_bytes, allowed_in}
@@ -89,7 +89,7 @@ alike B P h = let l = alike_in Bytes B P (row_1_both B P ∙ h) in record { base
 
 -- ---- all rows, in the order of the code
 
-module _ (unfit long : Bool) (base patch : Bad) where
+module _ (unfit long : Bool) (base patch : Option ℕ) where
   pub row_1 : unfit ≡ true → refusal 1 0 0 ≡ first_row unfit long base patch
   unfolding first_row
   row_1 e = rw e
@@ -100,41 +100,41 @@ module _ (unfit long : Bool) (base patch : Bad) where
     row_15 e = rw (fit, e)
 
     module _ (short : long ≡ false) where
-      pub row_16_base : (place : ℕ) → At place ≡ base → refusal 16 0 place ≡ first_row unfit long base patch
+      pub row_16_base : (place : ℕ) → Some place ≡ base → refusal 16 0 place ≡ first_row unfit long base patch
       unfolding first_row
       row_16_base place e = rw (fit, short, ← e)
 
-      module _ (clean : Nothing ≡ base) where
-        pub row_16_patch : (place : ℕ) → At place ≡ patch → refusal 16 0 place ≡ first_row unfit long base patch
+      module _ (clean : None ≡ base) where
+        pub row_16_patch : (place : ℕ) → Some place ≡ patch → refusal 16 0 place ≡ first_row unfit long base patch
         unfolding first_row
         row_16_patch place e = rw (fit, short, ← clean, ← e)
 
-        pub no_row : Nothing ≡ patch → refusal 0 0 0 ≡ first_row unfit long base patch
+        pub no_row : None ≡ patch → refusal 0 0 0 ≡ first_row unfit long base patch
         unfolding first_row
         no_row e = rw (fit, short, ← clean, ← e)
 
 -- ---- no row applies
 
 -- what is known then
-pub record Passed (unfit long : Bool) (base patch : Bad) : Type 0 where
+pub record Passed (unfit long : Bool) (base patch : Option ℕ) : Type 0 where
   pub fit : unfit ≡ false
   pub short : long ≡ false
-  pub clean : (Nothing ≡ base) × (Nothing ≡ patch)
+  pub clean : (None ≡ base) × (None ≡ patch)
 
 -- a row that applies does not pass
 never : {A : Type 0} (n : ℕ) → eqb (suc n) 0 ≡ true → A
 never n e = absurd (omega (arith, eqb-true (suc n) 0 e))
 
-pub passed : (unfit long : Bool) (base patch : Bad) → passes (first_row unfit long base patch) ≡ true → Passed unfit long base patch
+pub passed : (unfit long : Bool) (base patch : Option ℕ) → passes (first_row unfit long base patch) ≡ true → Passed unfit long base patch
 unfolding first_row
 passed true long base patch h = never 0 h
 passed false true base patch h = never 14 h
-passed false false (At place) patch h = never 15 h
-passed false false Nothing (At place) h = never 15 h
-passed false false Nothing Nothing h = record { fit = refl; short = refl; clean = (refl, refl) }
+passed false false (Some place) patch h = never 15 h
+passed false false None (Some place) h = never 15 h
+passed false false None None h = record { fit = refl; short = refl; clean = (refl, refl) }
 
 -- marks without a bad one are clean
-bad_free : (W : Window) → Nothing ≡ bad_in W → Clean W.marks
+bad_free : (W : Window) → None ≡ bad_in W → Clean W.marks
 unfolding row16
 bad_free W e = ltb-false (first_bad_mark W.marks) (length W.marks) (no_bad Bytes (length W.memory) W.marks e)
 
@@ -152,7 +152,7 @@ look_fit_in form B P e = alike_in form B P (passed (row1_both_in form B P) false
 pub record FitIn (form : Form) (B : Window) (h : List ℕ) (P : Window) (k : List ℕ) : Type 0 where
   pub like : AlikeIn form B P
   pub short : (length h ≤ 252) × (length k ≤ 252)
-  pub clean : (Nothing ≡ bad_of form B) × (Nothing ≡ bad_of form P)
+  pub clean : (None ≡ bad_of form B) × (None ≡ bad_of form P)
 
 pub fit_in : (form : Form) (B : Window) (h : List ℕ) (P : Window) (k : List ℕ) → passes (merge_refusal_in form B h P k) ≡ true → FitIn form B h P k
 unfolding merge_refusal_in row15

@@ -1,6 +1,6 @@
 -- Examples for Req 07: a base and a patch of five cells from the address 100 on.
 use Rattle.std.specs.Prelude.{◌≡◌, ℕ, List, [], ◌∷◌, replicate}
-use Rattle.window.specs.declared.Entry.TheVariants.{Absent, Present}
+use Rattle.std.specs.Prelude.{None, Some}
 use Rattle.window.specs.Windows.{Window}
 use Rattle.window.specs.Plans.{refusal}
 use Rattle.overlay.specs.declared.Source.TheVariants.{Patch, Base, Neither, Refused}
@@ -9,40 +9,40 @@ use Rattle.overlay.specs.Merges.{Lent, lent, window_at, refusal_of, leaves}
 
 -- cells 100, 101 and 102, with a header and an entry
 abbrev pub base_image : Lent
-base_image = lent (1 ∷ 2 ∷ 3 ∷ 4 ∷ 5 ∷ []) (1 ∷ 1 ∷ 1 ∷ 0 ∷ 0 ∷ []) (66 ∷ []) (Present 7)
+base_image = lent (1 ∷ 2 ∷ 3 ∷ 4 ∷ 5 ∷ []) (1 ∷ 1 ∷ 1 ∷ 0 ∷ 0 ∷ []) (66 ∷ []) (Some 7)
 
 -- the memory of the patches, and one of cells 101, 102 and 103, with a header and no entry
 abbrev pub patch_memory : List ℕ
 patch_memory = 6 ∷ 7 ∷ 8 ∷ 9 ∷ 10 ∷ []
 
 abbrev pub patch_image : Lent
-patch_image = lent patch_memory (0 ∷ 1 ∷ 1 ∷ 1 ∷ 0 ∷ []) (80 ∷ []) Absent
+patch_image = lent patch_memory (0 ∷ 1 ∷ 1 ∷ 1 ∷ 0 ∷ []) (80 ∷ []) None
 
 -- cells 100 and 104 alone, with an entry at 0 and no header
 abbrev pub outer_patch : Lent
-outer_patch = lent patch_memory (1 ∷ 0 ∷ 0 ∷ 0 ∷ 1 ∷ []) [] (Present 0)
+outer_patch = lent patch_memory (1 ∷ 0 ∷ 0 ∷ 0 ∷ 1 ∷ []) [] (Some 0)
 
 -- a bad mark at cell 104 of the base, and at cell 103 of the patch
 abbrev pub bad_base : Lent
-bad_base = lent (1 ∷ 2 ∷ 3 ∷ 4 ∷ 5 ∷ []) (1 ∷ 1 ∷ 1 ∷ 0 ∷ 3 ∷ []) (66 ∷ []) (Present 7)
+bad_base = lent (1 ∷ 2 ∷ 3 ∷ 4 ∷ 5 ∷ []) (1 ∷ 1 ∷ 1 ∷ 0 ∷ 3 ∷ []) (66 ∷ []) (Some 7)
 
 abbrev pub bad_patch : Lent
-bad_patch = lent patch_memory (0 ∷ 1 ∷ 1 ∷ 2 ∷ 0 ∷ []) (80 ∷ []) Absent
+bad_patch = lent patch_memory (0 ∷ 1 ∷ 1 ∷ 2 ∷ 0 ∷ []) (80 ∷ []) None
 
 -- a patch with that mark and a header of so many bytes
 abbrev pub long_header : ℕ → Lent
-long_header n = lent patch_memory (0 ∷ 1 ∷ 1 ∷ 2 ∷ 0 ∷ []) (replicate n 80) Absent
+long_header n = lent patch_memory (0 ∷ 1 ∷ 1 ∷ 2 ∷ 0 ∷ []) (replicate n 80) None
 
 -- a patch with one mark too few, and with memory and marks too short
 abbrev pub few_marks : Lent
-few_marks = lent patch_memory (0 ∷ 1 ∷ 1 ∷ 2 ∷ []) (replicate 253 80) Absent
+few_marks = lent patch_memory (0 ∷ 1 ∷ 1 ∷ 2 ∷ []) (replicate 253 80) None
 
 abbrev pub few_cells : Lent
-few_cells = lent (6 ∷ 7 ∷ []) (0 ∷ 1 ∷ []) [] Absent
+few_cells = lent (6 ∷ 7 ∷ []) (0 ∷ 1 ∷ []) [] None
 
 -- images of no cells
 abbrev pub no_cells : Lent
-no_cells = lent [] [] [] Absent
+no_cells = lent [] [] [] None
 
 -- the window of these buffers from 100 on
 abbrev pub at100 : Lent → Window
@@ -85,11 +85,11 @@ pub record Examples : Type 0 where
   pub merge_15_base : refusal_of 100 (long_header 253) base_image ≡ refusal 15 0 0
   pub merge_252 : refusal_of 100 bad_base (long_header 252) ≡ refusal 16 0 4
   pub merge_16 : refusal_of 100 base_image bad_patch ≡ refusal 16 0 3
-  pub merge_refused : leaves 100 base_image bad_patch ≡ lent (1 ∷ 2 ∷ 3 ∷ 4 ∷ 5 ∷ []) (1 ∷ 1 ∷ 1 ∷ 0 ∷ 0 ∷ []) [] Absent
+  pub merge_refused : leaves 100 base_image bad_patch ≡ lent (1 ∷ 2 ∷ 3 ∷ 4 ∷ 5 ∷ []) (1 ∷ 1 ∷ 1 ∷ 0 ∷ 0 ∷ []) [] None
   -- a window may end at 2^32 and not behind it
   pub last : refusal_of 4294967291 base_image patch_image ≡ refusal 0 0 0
   pub too_far : refusal_of 4294967292 base_image patch_image ≡ refusal 1 0 0
   -- a merge: unmarked patch bytes stay out, the patch's header wins, its absent entry does not
-  pub merged : leaves 100 base_image patch_image ≡ lent (1 ∷ 7 ∷ 8 ∷ 9 ∷ 5 ∷ []) (1 ∷ 1 ∷ 1 ∷ 1 ∷ 0 ∷ []) (80 ∷ []) (Present 7)
+  pub merged : leaves 100 base_image patch_image ≡ lent (1 ∷ 7 ∷ 8 ∷ 9 ∷ 5 ∷ []) (1 ∷ 1 ∷ 1 ∷ 1 ∷ 0 ∷ []) (80 ∷ []) (Some 7)
   -- an empty patch header does not win, an entry at 0 does
-  pub merged_outer : leaves 100 base_image outer_patch ≡ lent (6 ∷ 2 ∷ 3 ∷ 4 ∷ 10 ∷ []) (1 ∷ 1 ∷ 1 ∷ 0 ∷ 1 ∷ []) (66 ∷ []) (Present 0)
+  pub merged_outer : leaves 100 base_image outer_patch ≡ lent (6 ∷ 2 ∷ 3 ∷ 4 ∷ 10 ∷ []) (1 ∷ 1 ∷ 1 ∷ 0 ∷ 1 ∷ []) (66 ∷ []) (Some 0)

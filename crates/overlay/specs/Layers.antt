@@ -1,7 +1,7 @@
 -- A patch over a base: cells, headers and entries, by one rule.
 use Rattle.std.specs.Prelude.{ℕ, Bool, true, false, cond, List, [], ◌∷◌}
 use Rattle.std.proofs.Math.Option.{Option, none, some}
-use Rattle.window.specs.declared.Entry.{Entry}
+use Rattle.window.specs.Entries.{Entry}
 use Rattle.window.specs.Images.{Image}
 use Rattle.window.specs.Plans.{is_present}
 

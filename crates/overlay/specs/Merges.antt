@@ -1,8 +1,8 @@
 -- A merge as its caller sees it: the answer, and the base's memory and marks afterwards.
 use Rattle.std.specs.Prelude.{ℕ, cond, List, [], take}
 use Rattle.window.specs.declared.Refusal.{Refusal}
-use Rattle.window.specs.declared.Entry.{Entry}
-use Rattle.window.specs.declared.Entry.TheVariants.{Absent}
+use Rattle.window.specs.Entries.{Entry}
+use Rattle.std.specs.Prelude.{None}
 use Rattle.window.specs.Windows.{Window, window_of}
 use Rattle.window.specs.Images.{image, marks_of, overlaid}
 use Rattle.window.specs.Headers.{header_of}
@@ -36,7 +36,7 @@ refusal_of base B P = merge_refusal (window_at base B) B.header (window_at base 
 
 -- "a refused merge gives an empty header and an absent entry"
 abbrev pub refused_merge : Refusal → Merged
-refused_merge f = record { refusal = f; header = header_of []; entry = Absent }
+refused_merge f = record { refusal = f; header = header_of []; entry = None }
 
 -- the refusal, and the header and entry of the two images, merged
 unfoldable pub merge_answer : ℕ → Lent → Lent → Merged

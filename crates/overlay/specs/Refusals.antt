@@ -7,8 +7,8 @@ use Rattle.window.specs.Headers.{row15}
 use Rattle.window.specs.Plans.{refusal}
 use Rattle.marks.specs.declared.Form.{Form}
 use Rattle.marks.specs.declared.Form.TheVariants.{Bytes}
-use Rattle.marks.specs.declared.Bad.{Bad}
-use Rattle.marks.specs.declared.Bad.TheVariants.{At, Nothing}
+use Rattle.std.specs.Prelude.{Option}
+use Rattle.std.specs.Prelude.{Some, None}
 use Rattle.marks.specs.Forms.{row1_in, bad_mark}
 
 -- "1 when any two lengths differ or the window is too long": row 1 of either window, or two memories of different lengths
@@ -20,19 +20,19 @@ unfoldable pub row1_both_in : Form → Window → Window → Bool
 row1_both_in form B P = row1_in form B || (row1_in form P || not (eqb (length B.memory) (length P.memory)))
 
 -- row 16 for the marks of a window, with the place of the first bad one; of packed marks Req 08's "exactly for a spare bit that is set"
-abbrev pub bad_of : Form → Window → Bad
+abbrev pub bad_of : Form → Window → Option ℕ
 bad_of form W = bad_mark form (length W.memory) W.marks
 
-abbrev pub bad_in : Window → Bad
+abbrev pub bad_in : Window → Option ℕ
 bad_in W = bad_of Bytes W
 
 -- 16 at a bad mark, else what comes behind it
-abbrev pub row16_or : Bad → Refusal → Refusal
-row16_or (At place) f = refusal 16 0 place
-row16_or Nothing f = f
+abbrev pub row16_or : Option ℕ → Refusal → Refusal
+row16_or (Some place) f = refusal 16 0 place
+row16_or None f = f
 
 -- "1 .., then 15 .., then 16 (base marks first; place: the index)"
-unfoldable pub first_row : Bool → Bool → Bad → Bad → Refusal
+unfoldable pub first_row : Bool → Bool → Option ℕ → Option ℕ → Refusal
 first_row unfit long base patch =
     cond unfit (refusal 1 0 0) (cond long (refusal 15 0 0) (row16_or base (row16_or patch (refusal 0 0 0))))
 

@@ -5,7 +5,7 @@ ghost use Rattle.std.specs.Prelude.{◌≡◌, not};
 ghost use Rattle.window.specs.Windows.{window_of};
 ghost use Rattle.overlay.specs.Refusals.{row1_both_in, bad_of, first_row};
 
-use marks::{Bad, Form};
+use marks::Form;
 use window::{Entry, Header, Refusal};
 
 // Which image a look shows: Req 07's 'word saying which'. A cell comes from the patch where that is marked, else from the base. For a
@@ -74,11 +74,11 @@ pub fn first_row(
         return window::refuse(15, 0, 0);
     }
     let first = marks::first_bad(form, base_marks, base_memory.len());
-    if let Bad::At(place) = first {
+    if let Some(place) = first {
         return window::refuse(16, 0, place);
     }
     let second = marks::first_bad(form, patch_marks, patch_memory.len());
-    if let Bad::At(place) = second {
+    if let Some(place) = second {
         return window::refuse(16, 0, place);
     }
     window::refuse(0, 0, 0)

@@ -2,7 +2,7 @@
 #![tactic(auto)]
 
 ghost use Rattle.std.specs.Prelude.{◌≡◌, length};
-ghost use Rattle.window.specs.declared.Entry.TheVariants.{Present};
+ghost use Rattle.std.specs.Prelude.{Some};
 ghost use Rattle.window.specs.Windows.{window_of};
 ghost use Rattle.marks.specs.declared.Form.TheVariants.{Packed};
 ghost use Rattle.marks.specs.Forms.{marks_left};
@@ -14,7 +14,6 @@ ghost use Rattle.forms.specs.Calls.{load_in, answer_in, write_in};
 
 use formats::Format;
 use marks::Form;
-use window::Entry;
 
 // Loads a text of S-records into a window: the refusal's number, 0 for accepted.
 #[unsafe(no_mangle)]
@@ -28,9 +27,9 @@ pub extern "C" fn srec_load_packed(
     ensures memory { memory.new ≡ memory_after memory.old (load_in Packed (window_of base memory.old marks.old) (plan srec text.now)) }
     ensures marks { marks.new ≡ marks_left Packed marks.old (load_in Packed (window_of base memory.old marks.old) (plan srec text.now)) }
 {
-    let loaded = loader::load_as(Format::Records, Form::Packed, text, base, memory, marks);
-    let refusal = loaded.refusal;
-    refusal.reason
+    loader::load_as(Format::Records, Form::Packed, text, base, memory, marks)
+        .refusal
+        .reason
 }
 
 // Writes the canonical text of a window: its length, 0 for a refusal.
@@ -43,10 +42,8 @@ pub extern "C" fn srec_write_packed(
     entry: u32,
     out: &mut [u8],
 ) -> usize
-    ensures answer { result ≡ (write_answer (write_in Packed srec (window_of base memory.now marks.now) header.now (Present entry) (length out.old))).length }
-    ensures output { out.new ≡ output_after out.old (write_in Packed srec (window_of base memory.now marks.now) header.now (Present entry) (length out.old)) }
+    ensures answer { result ≡ (write_answer (write_in Packed srec (window_of base memory.now marks.now) header.now (Some entry) (length out.old))).length }
+    ensures output { out.new ≡ output_after out.old (write_in Packed srec (window_of base memory.now marks.now) header.now (Some entry) (length out.old)) }
 {
-    let entry = Entry::Present(entry);
-    let written = srec_write::write_as(Form::Packed, base, memory, marks, header, entry, out);
-    written.length
+    srec_write::write_as(Form::Packed, base, memory, marks, header, Some(entry), out).length
 }

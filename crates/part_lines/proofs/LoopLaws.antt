@@ -7,15 +7,16 @@ use lib.Dec.{ltb}
 use lib.ListN.{length, take, drop, length-drop, length-take}
 use lib.Seq.{drop-drop}
 use borrow.Author.Tests.{ltb-true, ltb-false}
+use Rattle.std.specs.Prelude.{None}
 use Rattle.lists.proofs.TestLaws.{by_test}
 use Rattle.window.specs.declared.Refusal.{Refusal}
 use Rattle.text.specs.declared.State.{State}
 use Rattle.text.specs.declared.Step.{Step}
-use Rattle.text.specs.declared.Taken.TheVariants.{Line, Nothing}
 use Rattle.text.specs.Lines.{front}
 use Rattle.text.specs.Finds.{leading}
 use Rattle.text.specs.Steps.{state_with, as_step}
 use Rattle.text.proofs.FindLaws.{part, front_take, shorter, some_char}
+use Rattle.text.proofs.StepLaws.{takes, takes_same}
 use Rattle.srec.specs.Lines.{is_end}
 use Rattle.srec.specs.Formats.{srec}
 use Rattle.parts.specs.Parts.{Going, Stage, stage, stopped, record_turn, line_turn, fed}
@@ -25,7 +26,7 @@ use Rattle.parts.specs.Stretches.{fresh, kept_all}
 use Rattle.parts.proofs.StretchLaws.{fed_ends, fed_stretch, line_first}
 use Rattle.tally.specs.declared.Tally.{Tally}
 use Rattle.tally.specs.Tallies.{state_of, entry_of, known_of}
-use Rattle.part_next.specs.Takes.{begin_of, end_of, next_in, Roomy}
+use Rattle.part_next.specs.Takes.{begin_of, end_of, step_in, next_in, Roomy}
 use Rattle.intake.proofs.RecordLaws.{some_line}
 use Rattle.part_lines.specs.Rests.{Few}
 use Rattle.part_lines.proofs.FreeLaws.{all_free}
@@ -35,12 +36,12 @@ use Rattle.part_lines.proofs.TurnLaws.{line_held, turn_of, turn_halts, turn_goes
 
 module _ (total : ℕ) (n : State) (text : List ℕ) (at : ℕ) where
   -- no line that ends in the part is left
-  pub none_next : Nothing ≡ next_in total n text at → length text ≤ end_of text (begin_of text at)
+  pub none_next : None ≡ next_in total n text at → length text ≤ end_of text (begin_of text at)
   none_next q =
       by_test (ltb (end_of text (begin_of text at)) (length text))
       (λ t. absurd (never (rw t at q))) (λ t. ltb-false (end_of text (begin_of text at)) (length text) t)
     where
-      never : {from to : ℕ} {step : Step} → Nothing ≡ Line from to step → ⊥
+      never : {from to : ℕ} {step : Step} → None ≡ takes from to step → ⊥
       never e = let z : ◌≡◌ {A = ℕ} 0 1 = cc in omega arith
 
   -- the next line, where it stands, and its step
@@ -50,29 +51,27 @@ module _ (total : ℕ) (n : State) (text : List ℕ) (at : ℕ) where
     pub inside : to < length text
     pub step_is : step ≡ as_step (total + from) (state_with [] n) (srec.step (state_with [] n) (part text from to))
 
-  pub line_next : (from to : ℕ) (step : Step) → Line from to step ≡ next_in total n text at → IsNext from to step
+  pub line_next : (from to : ℕ) (step : Step) → takes from to step ≡ next_in total n text at → IsNext from to step
   line_next from to step q =
       by_test (ltb (end_of text (begin_of text at)) (length text))
       (λ t. found (ltb-true (end_of text (begin_of text at)) (length text) t) (rw t at q)) (λ t. absurd (never (rw t at q)))
     where
-      never : Line from to step ≡ Nothing → ⊥
+      never : takes from to step ≡ None → ⊥
       never e = let z : ◌≡◌ {A = ℕ} 0 1 = cc in omega arith
 
       found : end_of text (begin_of text at) < length text
-          → Line from to step
-          ≡ Line (begin_of text at) (end_of text (begin_of text at)) (as_step (total + begin_of text at) (state_with [] n)
-          (srec.step (state_with [] n) (part text (begin_of text at) (end_of text (begin_of text at)))))
-          → IsNext from to step
+          → takes from to step ≡ step_in total n text (begin_of text at) (end_of text (begin_of text at)) → IsNext from to step
       found h e =
-          let f : from ≡ begin_of text at = cc in
-          let l : to ≡ end_of text (begin_of text at) = cc in
-          let s : step ≡ as_step (total + begin_of text at) (state_with [] n)
-          (srec.step (state_with [] n) (part text (begin_of text at) (end_of text (begin_of text at)))) = cc in
+          let first : ℕ = begin_of text at in
+          let same = takes_same from to first (end_of text first) step
+          (as_step (total + first) (state_with [] n) (srec.step (state_with [] n) (part text first (end_of text first)))) e in
+          let f : from ≡ first = same.0 in
+          let l : to ≡ end_of text first = same.1 in
           record {
             begins = f;
             ends = l ∙ ap (end_of text) (sym f);
             inside = omega (arith, l);
-            step_is = s ∙ (λ i. as_step (total + sym f i) (state_with [] n) (srec.step (state_with [] n) (part text (sym f i) (sym l i))));
+            step_is = same.2 ∙ (λ i. as_step (total + sym f i) (state_with [] n) (srec.step (state_with [] n) (part text (sym f i) (sym l i))));
           }
 
 -- ---- the loop
@@ -92,12 +91,6 @@ module _ {base size total : ℕ} {text : List ℕ} {w : Stage} {memory marks : L
   abbrev here : ℕ → Going
   here from = fresh size (total + from) (known_of t header)
 
-  -- the numbers have room for all of the part
-  pub roomy : Roomy total t.state (length text)
-  roomy =
-      let f = x.few in
-      (omega (arith, f.3, x.inside), (omega (arith, f.0, f.3, x.inside), omega (arith, f.1, f.3, x.inside), omega (arith, f.2, f.3, x.inside)))
-
   -- line ends before it are passed
   to_begin : (from : ℕ) → from ≡ begin_of text at → w ≡ fed base (stage (going (here from)) memory marks) (drop from text)
   to_begin from b =
@@ -107,19 +100,19 @@ module _ {base size total : ℕ} {text : List ℕ} {w : Stage} {memory marks : L
       ∙ (λ i. fed base (stage (going (fresh size (e i) (known_of t header))) memory marks) ((drop-drop n at text ∙ ap (λ (j : ℕ). drop j text) (sym b)) i))
 
   -- no line that ends in the part is left
-  open_long : Nothing ≡ next_in total t.state text at → (from : ℕ) → from ≡ begin_of text at
+  open_long : None ≡ next_in total t.state text at → (from : ℕ) → from ≡ begin_of text at
       → length (front is_end (drop from text)) ≡ length (drop from text)
   open_long q from b =
       let l : length text ≤ end_of text from = subst (λ (j : ℕ). length text ≤ end_of text j) (sym b) (none_next total t.state text at q) in
       omega (arith, shorter is_end (drop from text), length-drop from text)
 
   -- the characters behind the last line end are kept
-  pub left_open : Nothing ≡ next_in total t.state text at → (from : ℕ) → from ≡ begin_of text at
+  pub left_open : None ≡ next_in total t.state text at → (from : ℕ) → from ≡ begin_of text at
       → w ≡ stage (going (kept_all (here from) (drop from text))) memory marks
   left_open q from b = to_begin from b ∙ fed_stretch base memory marks (drop from text) (here from) (omega arith) (open_long q from b)
 
   -- none of them ends a line
-  pub open_free : Nothing ≡ next_in total t.state text at → (from : ℕ) → from ≡ begin_of text at → front is_end (drop from text) ≡ drop from text
+  pub open_free : None ≡ next_in total t.state text at → (from : ℕ) → from ≡ begin_of text at → front is_end (drop from text) ≡ drop from text
   open_free q from b = all_free (drop from text) (open_long q from b)
 
   -- a line that ends in the part
@@ -150,10 +143,6 @@ module _ {base size total : ℕ} {text : List ℕ} {w : Stage} {memory marks : L
         line_first base memory marks (total + from) (front is_end xs) (known_of t header)
         ∙ ap (λ (c : List ℕ). line_turn base (total + from) c memory marks (known_of t header)) chars_are
         ∙ some_line base (total + from) memory marks (known_of t header) (part text from to) some_chars
-
-    -- its numbers fit
-    pub number_fits : t.state.number + 1 < 2 ^ 64
-    number_fits = omega (arith, x.few.0, x.few.3, n.begins, n.ends, n.inside)
 
     -- it is refused, for a reason
     module _ (f : Refusal) (h : record_turn base (total + from) (part text from to) memory marks (state_of t header) (entry_of t) ≡ halt f) where

@@ -17,39 +17,11 @@ use Rattle.parts.specs.Parts.Status.{going, halted}
 use Rattle.parts.specs.Parts.Turn.{halt, next}
 use Rattle.parts.specs.Stretches.{fresh, kept_all}
 use Rattle.tally.specs.declared.Tally.{Tally}
-use Rattle.tally.specs.declared.Turn.{Turn as Taken}
-use Rattle.tally.specs.declared.Turn.TheVariants.{Refused, Next}
-use Rattle.tally.specs.Tallies.{known_of, Took, TidyTurn}
-use Rattle.part_lines.specs.declared.Rest.{Rest}
-use Rattle.part_lines.specs.declared.Rest.TheVariants.{From, Refused as RestRefused}
-use Rattle.part_lines.specs.Rests.{behind, TidyRest, turn_as}
+use Rattle.tally.specs.Tallies.{known_of}
 use Rattle.parts.proofs.GrowthLaws.{TurnKeeps, line_keeps}
 use Rattle.parts.proofs.SoundLaws.{fed_halted}
 use Rattle.parts.proofs.StretchLaws.{fed_line}
 use Rattle.part_lines.proofs.FreeLaws.{front_ended}
-
--- ---- what a line that was taken says
-
-module _ (t : Turn) (r : Taken) (header memory marks memory₀ : List ℕ) (k : Took t r header memory marks memory₀) where
-  -- it is refused, and leaves memory as it was
-  pub took_refused : (f : Refusal) → r ≡ Refused f → (t ≡ halt f) × (memory ≡ memory₀)
-  took_refused f e = subst (λ (x : Taken). Took t x header memory marks memory₀) e k
-
-  -- or the load goes on
-  pub took_next : (y : Tally) → r ≡ Next y → t ≡ next (known_of y header) memory marks
-  took_next y e = subst (λ (x : Taken). Took t x header memory marks memory₀) e k
-
--- then its marks are tidy
-pub turn_tidy : (form : Form) (n : ℕ) (r : Taken) (marks : List ℕ) → TidyTurn form n r marks → (y : Tally) → r ≡ Next y → Tidy form n marks
-turn_tidy form n r marks t y e = subst (λ (x : Taken). TidyTurn form n x marks) e t
-
--- so are those behind the lines of a part that were not refused
-pub rest_tidy : (form : Form) (n : ℕ) (r : Rest) (t : Taken) (marks : List ℕ) → t ≡ turn_as r → TidyRest form n r marks → TidyTurn form n t marks
-rest_tidy form n r t marks e h = subst (λ (x : Taken). TidyTurn form n x marks) (sym e) (go r h)
-  where
-    go : (r : Rest) → TidyRest form n r marks → TidyTurn form n (turn_as r) marks
-    go (RestRefused f) h = tt
-    go (From from y) h = h
 
 -- a refused load clears the marks, whatever they were: only their number counts
 pub stopped_as : (w : Stage) (f : Refusal) (memory memory' marks marks' : List ℕ) → w ≡ stopped f memory marks → memory' ≡ memory
@@ -138,23 +110,24 @@ module _ (base size place : ℕ) (memory marks : List ℕ) (k : Known) (cs : Lis
       ∙ ap (fed base (stage (going (fresh size (suc (place + length (front is_end xs))) k')) memory' marks'))
       (drop_of_length-le xs {i = suc (length (front is_end xs))} (omega (arith, ap length front_is, long)))
 
-  told : (t : Turn) → turn ≡ t → (r : Rest) (header memory' marks' : List ℕ)
-      → fed base (stage (going g) memory marks) xs ≡ behind size place header xs r memory' marks' → Took t (turn_as r) header memory' marks' memory
-  told (halt f) h (RestRefused e) header memory' marks' q =
-      let w : stopped f memory marks ≡ stopped e memory' marks' = sym (turn_halts base memory marks g (omega arith) xs ends f (turn_is ∙ h)) ∙ q in
-      (ap halt (same_refusal_lem f e (ap (λ (x : Stage). x.status) w)), sym (ap (λ (x : Stage). x.memory) w))
-  told (halt f) h (From from y) header memory' marks' q =
-      absurd (never_going f _ (ap (λ (x : Stage). x.status) (sym (turn_halts base memory marks g (omega arith) xs ends f (turn_is ∙ h)) ∙ q)))
-  told (next k' m n) h (RestRefused e) header memory' marks' q =
-      absurd (never_going e _ (sym (ap (λ (x : Stage). x.status) (sym (goes k' m n h) ∙ q))))
-  told (next k' m n) h (From from y) header memory' marks' q =
+  -- its lines are refused, and so is it
+  refused : (t : Turn) → turn ≡ t → (f : Refusal) (memory' marks' : List ℕ)
+      → fed base (stage (going g) memory marks) xs ≡ stopped f memory' marks' → (t ≡ halt f) × (memory' ≡ memory)
+  refused (halt e) h f memory' marks' q =
+      let w : stopped e memory marks ≡ stopped f memory' marks' = sym (turn_halts base memory marks g (omega arith) xs ends e (turn_is ∙ h)) ∙ q in
+      (ap halt (same_refusal_lem e f (ap (λ (x : Stage). x.status) w)), sym (ap (λ (x : Stage). x.memory) w))
+  refused (next k' m n) h f memory' marks' q =
+      absurd (never_going f _ (sym (ap (λ (x : Stage). x.status) (sym (goes k' m n h) ∙ q))))
+
+  -- they are taken, and so is it
+  taken : (t : Turn) → turn ≡ t → (to : Going) (memory' marks' : List ℕ)
+      → fed base (stage (going g) memory marks) xs ≡ stage (going to) memory' marks' → t ≡ next to.known memory' marks'
+  taken (halt e) h to memory' marks' q =
+      absurd (never_going e _ (ap (λ (x : Stage). x.status) (sym (turn_halts base memory marks g (omega arith) xs ends e (turn_is ∙ h)) ∙ q)))
+  taken (next k' m n) h to memory' marks' q =
       let w = sym (goes k' m n h) ∙ q in
       let known = ap (λ (x : Going). x.known) (same_going _ _ (ap (λ (x : Stage). x.status) w)) in
       λ i. next (known i) (ap (λ (x : Stage). x.memory) w i) (ap (λ (x : Stage). x.marks) w i)
-
-  line_alone : (r : Rest) (header memory' marks' : List ℕ)
-      → fed base (stage (going g) memory marks) xs ≡ behind size place header xs r memory' marks' → Took turn (turn_as r) header memory' marks' memory
-  line_alone r header memory' marks' q = told turn refl r header memory' marks' q
 
 -- LF ends a line
 lf_ends : is_end 10 ≡ true
@@ -168,14 +141,23 @@ lf_behind cs (x ∷ rest) n l h =
     ap (take (n + 1)) (set_at cs x rest 10 n l ∙ sym (append_assoc cs (10 ∷ []) rest))
     ∙ take_at (cs ++ (10 ∷ [])) rest (n + 1) (length-append cs (10 ∷ []) ∙ omega (arith, l))
 
--- what `close_line` answers, as it has the line and its turn
-pub line_closed : (base size place : ℕ) (memory marks : List ℕ) (k : Known) (cs cs' whole : List ℕ) → front is_end cs ≡ cs → length cs ≤ 515
-    → cs ≡ cs' → whole ≡ cs ++ (10 ∷ []) → (r : Rest) (t : Taken) → t ≡ turn_as r → (header memory' marks' : List ℕ)
-    → fed base (stage (going (fresh size (place + 0) k)) memory marks) whole ≡ behind size place header whole r memory' marks'
-    → Took (line_turn base place cs' memory marks k) t header memory' marks' memory
-line_closed base size place memory marks k cs cs' whole free short e w r t a header memory' marks' q =
-    let p = sym (λ i. fed base (stage (going (fresh size (add-zero place i) k)) memory marks) (w i)) ∙ q
-    ∙ (λ i. behind size place header (w i) r memory' marks') in
-    subst (λ (x : List ℕ). Took (line_turn base place x memory marks k) t header memory' marks' memory) e
-    (subst (λ (y : Taken). Took (line_turn base place cs memory marks k) y header memory' marks' memory) (sym a)
-    (line_alone base size place memory marks k cs free short 10 lf_ends r header memory' marks' p))
+-- what `close_line` answers, as it has the line and what its lines came to
+module _ (base size place : ℕ) (memory marks : List ℕ) (k : Known) (cs cs' whole : List ℕ) (free : front is_end cs ≡ cs) (short : length cs ≤ 515)
+    (shown : cs ≡ cs') (ended : whole ≡ cs ++ (10 ∷ [])) where
+  abbrev line : ℕ → List ℕ → Stage
+  line from chars = fed base (stage (going (fresh size from k)) memory marks) chars
+
+  alone : line place (cs ++ (10 ∷ [])) ≡ line (place + 0) whole
+  alone = λ i. line (sym (add-zero place) i) (sym ended i)
+
+  pub closed_refused : (f : Refusal) (memory' marks' : List ℕ) → line (place + 0) whole ≡ stopped f memory' marks'
+      → (line_turn base place cs' memory marks k ≡ halt f) × (memory' ≡ memory)
+  closed_refused f memory' marks' q =
+      subst (λ (x : List ℕ). (line_turn base place x memory marks k ≡ halt f) × (memory' ≡ memory)) shown
+      (refused base size place memory marks k cs free short 10 lf_ends (line_turn base place cs memory marks k) refl f memory' marks' (alone ∙ q))
+
+  pub closed_taken : (to : Going) (memory' marks' : List ℕ) → line (place + 0) whole ≡ stage (going to) memory' marks'
+      → line_turn base place cs' memory marks k ≡ next to.known memory' marks'
+  closed_taken to memory' marks' q =
+      subst (λ (x : List ℕ). line_turn base place x memory marks k ≡ next to.known memory' marks') shown
+      (taken base size place memory marks k cs free short 10 lf_ends (line_turn base place cs memory marks k) refl to memory' marks' (alone ∙ q))

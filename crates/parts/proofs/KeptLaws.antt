@@ -11,7 +11,7 @@ use lib.ListN.{length, get_or, drop}
 use Rattle.lists.proofs.TestLaws.{by_test, Of, either}
 use Rattle.hex_digits.specs.Digits.{bytes}
 use Rattle.window.specs.declared.Refusal.{Refusal}
-use Rattle.window.specs.declared.Entry.{Entry}
+use Rattle.window.specs.Entries.{Entry}
 use Rattle.window.specs.Images.{Image, overlaid}
 use Rattle.window.specs.Cells.{Run}
 use Rattle.window.specs.Plans.{refusal_with, Plan, row12, row13, filled, placed}

@@ -11,8 +11,8 @@ use lib.Seq.{take_all, take-take, take-append-le, length-take-le}
 use borrow.Author.Tests.{eqb-true, eqb-false, lt-ltb, leb-true, leb-false}
 use Rattle.lists.proofs.TestLaws.{by_test}
 use Rattle.window.specs.declared.Refusal.{Refusal}
-use Rattle.window.specs.declared.Entry.{Entry}
-use Rattle.window.specs.declared.Entry.TheVariants.{Absent}
+use Rattle.window.specs.Entries.{Entry}
+use Rattle.std.specs.Prelude.{None}
 use Rattle.window.specs.Images.{Image, overlaid, marks_of}
 use Rattle.window.specs.Plans.{Summary, refusal, Plan, row12, row13, filled, placed}
 use Rattle.window.specs.Plans.Plan.{store, stop, done}
@@ -125,7 +125,7 @@ module _ (base : ℕ) (m₀ k₀ : List ℕ) where
       (λ v. absurd (never _ _ _ (rw (t, v) at (claim_refused base img a ds (claim_row base (marks_of img) a (length ds)) n place (done nothing) refl z)))))
     where
       nothing : Summary
-      nothing = record { header = []; entry = Absent; records = 0; cells = 0 }
+      nothing = record { header = []; entry = None; records = 0; cells = 0 }
 
       never : (f : Refusal) (s : Summary) (x : Image) → accepted s x ≡ refused f → ⊥
       never f s x q = let e : ◌≡◌ {A = ℕ} 0 1 = cc in omega arith

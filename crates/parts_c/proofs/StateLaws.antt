@@ -2,8 +2,8 @@
 use mathlib.Core.Path.{◌≡◌, refl, sym, ap, ◌∙◌}
 use mathlib.Core.Bool.{Bool, true, false, not}
 use lib.Dec.{eqb}
-use Rattle.window.specs.declared.Entry.{Entry}
-use Rattle.window.specs.declared.Entry.TheVariants.{Absent, Present}
+use Rattle.window.specs.Entries.{Entry}
+use Rattle.std.specs.Prelude.{None, Some}
 use Rattle.window.specs.Plans.{is_present, address_of}
 use Rattle.marks.specs.declared.Form.{Form}
 use Rattle.marks.specs.declared.Form.TheVariants.{Bytes}
@@ -20,8 +20,8 @@ yes_back false = refl
 
 entry_back : (e : Entry) → entry_for (flag_of (is_present e)) (address_of e) ≡ e
 unfolding entry_for
-entry_back Absent = refl
-entry_back (Present a) = refl
+entry_back None = refl
+entry_back (Some a) = refl
 
 -- the numbers of a state stand for it
 pub back : (s : Session) → s.form ≡ Bytes → session_of (parts_of s) ≡ s

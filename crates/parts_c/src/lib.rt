@@ -49,6 +49,7 @@ pub struct Last {
 }
 
 // The state that the numbers stand for.
+#[tactic(auto, unfolding(crate::specs::States::session_of))]
 fn session_of(parts: Parts) -> Session
     ensures { result ≡ session_of parts }
 {
@@ -86,29 +87,27 @@ fn session_of(parts: Parts) -> Session
 }
 
 // The numbers of a state.
+#[tactic(auto, unfolding(crate::specs::States::parts_of))]
 fn parts_of(session: Session) -> Parts
     ensures { result ≡ parts_of session }
 {
-    let refusal = session.refusal;
     let tally = session.tally;
-    let state = tally.state;
-    let entry = tally.entry;
     let header = session.header;
     let line = session.line;
     Parts {
-        reason: refusal.reason,
-        want: refusal.want,
-        ended: tally.ended as u8,
-        present: c_answers::flag(entry),
-        entry: c_answers::address_of(entry),
-        ordinal: refusal.ordinal,
-        place: refusal.place,
+        reason: session.refusal.reason,
+        want: session.refusal.want,
+        ended: u8::from(tally.ended),
+        present: c_answers::flag(tally.entry),
+        entry: c_answers::address_of(tally.entry),
+        ordinal: session.refusal.ordinal,
+        place: session.refusal.place,
         size: session.size,
         total: session.total,
         begins: session.place,
-        number: state.number,
-        records: state.records,
-        cells: state.cells,
+        number: tally.state.number,
+        records: tally.state.records,
+        cells: tally.state.cells,
         head: tally.head,
         held: session.held,
         header,
@@ -122,8 +121,7 @@ pub extern "C" fn srec_begin(base: u32, memory: &[u8], marks: &mut [u8]) -> Part
     ensures status { status_of (session_of result) ≡ (begun (window_of base memory.now marks.old)).status }
     ensures marks { marks.new ≡ (begun (window_of base memory.now marks.old)).marks }
 {
-    let fresh = begin::begin(base, memory, marks);
-    parts_of(fresh)
+    parts_of(begin::begin(base, memory, marks))
 }
 
 // Takes one more part of the text.
@@ -140,8 +138,7 @@ pub extern "C" fn srec_feed(
     ensures marks { marks.new ≡ (feed_as Bytes (status_of (session_of parts)) (window_of base memory.old marks.old) part.now).marks }
 {
     let session = session_of(parts);
-    let next = feed::feed(session, part, base, memory, marks);
-    parts_of(next)
+    parts_of(feed::feed(session, part, base, memory, marks))
 }
 
 // Ends a load in parts.
@@ -154,12 +151,8 @@ pub extern "C" fn srec_end(parts: Parts, base: u32, memory: &mut [u8], marks: &m
 {
     let session = session_of(parts);
     let ended = end::end(session, base, memory, marks);
-    let loaded = ended.loaded;
-    let last = ended.session;
-    let told = c_answers::answer_of(loaded);
-    let kept = parts_of(last);
     Last {
-        loaded: told,
-        parts: kept,
+        loaded: c_answers::answer_of(ended.loaded),
+        parts: parts_of(ended.session),
     }
 }

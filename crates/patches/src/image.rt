@@ -1,7 +1,7 @@
 // An image of a case: its buffers, its header and its entry, as the lines of the case set them.
 ghost use Rattle.std.specs.Prelude.{◌≡◌};
-ghost use Rattle.hex_digits.specs.Tables.{digit_table};
 
+use hex_read::DigitTable;
 use window::Entry;
 
 // A memory or marks have at most so many bytes.
@@ -18,8 +18,7 @@ pub struct Image {
     pub marked: usize,
     pub header: [u8; HEADER],
     pub len: usize,
-    pub has_entry: bool,
-    pub entry: u32,
+    pub entry: Entry,
 }
 
 // An image of empty buffers.
@@ -31,48 +30,32 @@ pub fn empty() -> Image {
         marked: 0,
         header: [0u8; HEADER],
         len: 0,
-        has_entry: false,
-        entry: 0,
+        entry: None,
     }
 }
 
 // So many bytes of a buffer, or all of them.
 pub fn first<'a>(bytes: &'a [u8], n: usize) -> &'a [u8] {
-    let k = marks::smaller(n, bytes.len());
+    let k = n.min(bytes.len());
     &bytes[..k]
 }
 
-// Its entry, if it has one.
-pub fn entry_of(image: &Image) -> Entry {
-    if image.has_entry {
-        return Entry::Present(image.entry);
-    }
-    Entry::Absent
-}
-
-// The address that eight digits give; 0 for fewer.
-pub fn address_in(table: &[u32; 256], digits: &[u8]) -> u32
-    requires { table.now ≡ digit_table }
-{
+// The address that eight digits give; none for fewer.
+pub fn address_in(table: &DigitTable, digits: &[u8]) -> Entry {
     if digits.len() < 8 {
-        return 0;
+        return None;
     }
-    hex_read::number_of(table, &digits[..8])
+    Some(table.number_of(&digits[..8]))
 }
 
 // The image with what a letter and the digits behind it set.
-pub fn set(table: &[u32; 256], image: Image, letter: u8, digits: &[u8]) -> Image
-    requires { table.now ≡ digit_table }
-{
+pub fn set(table: &DigitTable, image: Image, letter: u8, digits: &[u8]) -> Image {
     let mut next = image;
     match letter {
         b'm' => next.cells = printing::bytes_in(table, digits, &mut next.memory),
         b'k' => next.marked = printing::bytes_in(table, digits, &mut next.marks),
         b'h' => next.len = printing::bytes_in(table, digits, &mut next.header),
-        _ => {
-            next.has_entry = digits.len() >= 8;
-            next.entry = address_in(table, digits);
-        }
+        _ => next.entry = address_in(table, digits),
     }
     next
 }

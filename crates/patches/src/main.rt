@@ -17,15 +17,15 @@
 mod image;
 
 ghost use Rattle.std.specs.Prelude.{◌≡◌, ◌≤◌, ◌<◌, length, IfOk};
-ghost use Rattle.hex_digits.specs.Tables.{digit_table};
 
+use hex_read::DigitTable;
 use image::{CELLS, HEADER, Image};
 use marks::Form;
 use overlay::{Merged, Source};
 use std::io;
 use std::io::{BufWriter, Write};
 use tape::Edition;
-use window::{Entry, Written};
+use window::Written;
 
 // The most bytes of an output.
 const ROOM: usize = 512;
@@ -76,24 +76,15 @@ fn look<W: Write>(
 // Looks at each of some addresses.
 fn look_all<W: Write>(
     out: &mut W,
-    table: &[u32; 256],
+    table: &DigitTable,
     form: Form,
     base: u32,
     under: &Image,
     over: &Image,
     digits: &[u8],
-) -> io::Result<()>
-    requires { table.now ≡ digit_table }
-{
+) -> io::Result<()> {
     for address in digits.chunks_exact(8) {
-        look(
-            out,
-            form,
-            base,
-            under,
-            over,
-            hex_read::number_of(table, address),
-        )?;
+        look(out, form, base, under, over, table.number_of(address))?;
     }
     Ok(())
 }
@@ -115,11 +106,7 @@ fn answered(image: Image, merged: Merged) -> Image {
     next.header = [0u8; HEADER];
     next.header[..bytes.len()].copy_from_slice(&bytes);
     next.len = merged.header.len;
-    next.has_entry = false;
-    if let Entry::Present(address) = merged.entry {
-        next.has_entry = true;
-        next.entry = address;
-    }
+    next.entry = merged.entry;
     next
 }
 
@@ -139,11 +126,11 @@ fn merge_lent<W: Write>(
         memory,
         marks,
         image::first(&base.header, base.len),
-        image::entry_of(base),
+        base.entry,
         image::first(&patch.memory, patch.cells),
         image::first(&patch.marks, patch.marked),
         image::first(&patch.header, patch.len),
-        image::entry_of(patch),
+        patch.entry,
     );
     print_merged(out, merged)?;
     printing::print_bytes(out, "memory ", memory)?;
@@ -161,8 +148,8 @@ fn merge<W: Write>(
 ) -> io::Result<Image> {
     let mut memory = base.memory;
     let mut marks = base.marks;
-    let a = marks::smaller(base.cells, CELLS);
-    let b = marks::smaller(base.marked, CELLS);
+    let a = base.cells.min(CELLS);
+    let b = base.marked.min(CELLS);
     let merged = merge_lent(
         out,
         form,
@@ -186,11 +173,10 @@ fn write_lent(letter: u8, form: Form, at: u32, base: &Image, output: &mut [u8]) 
     let a = image::first(&base.memory, base.cells);
     let b = image::first(&base.marks, base.marked);
     let h = image::first(&base.header, base.len);
-    let entry = image::entry_of(base);
     match letter {
-        b'r' => tape_write::write_as(Edition::Repeat, form, at, a, b, h, entry, output),
-        b's' => tape_write::write_as(Edition::Sum, form, at, a, b, h, entry, output),
-        _ => srec_write::write_as(form, at, a, b, h, entry, output),
+        b'r' => tape_write::write_as(Edition::Repeat, form, at, a, b, h, base.entry, output),
+        b's' => tape_write::write_as(Edition::Sum, form, at, a, b, h, base.entry, output),
+        _ => srec_write::write_as(form, at, a, b, h, base.entry, output),
     }
 }
 
@@ -220,30 +206,32 @@ fn write<W: Write>(
     room: usize,
 ) -> io::Result<()> {
     let mut output = [0xEEu8; ROOM];
-    let n = marks::smaller(room, ROOM);
+    let n = room.min(ROOM);
     print_write(out, letter, form, at, base, &mut output[..n])
 }
 
 // Runs a line: a letter, and the digits behind it.
-fn run_line<W: Write>(out: &mut W, table: &[u32; 256], case: Case, line: &[u8]) -> io::Result<Case>
-    requires { table.now ≡ digit_table }
-{
-    if line.is_empty() {
+fn run_line<W: Write>(
+    out: &mut W,
+    table: &DigitTable,
+    case: Case,
+    line: &[u8],
+) -> io::Result<Case> {
+    let [letter, digits @ ..] = line else {
         return Ok(case);
-    }
+    };
     let Case {
         form,
         at,
         base,
         patch,
     } = case;
-    let letter = line[0];
-    let digits = &line[1..];
+    let letter = *letter;
     let mut next = case;
     match letter {
         b'a' => look_all(out, table, form, at, &base, &patch, digits)?,
         b'w' | b'r' | b's' => {
-            let room = image::address_in(table, digits) as usize;
+            let room = image::address_in(table, digits).unwrap_or(0) as usize;
             write(out, letter, form, at, &base, room)?;
         }
         b'l' => next.base = merge(out, form, at, base, &patch)?,
@@ -260,9 +248,12 @@ fn run_line<W: Write>(out: &mut W, table: &[u32; 256], case: Case, line: &[u8]) 
 }
 
 // Runs the lines of a case.
-fn run_lines<W: Write>(out: &mut W, table: &[u32; 256], case: Case, lines: &[u8]) -> io::Result<()>
-    requires { table.now ≡ digit_table }
-{
+fn run_lines<W: Write>(
+    out: &mut W,
+    table: &DigitTable,
+    case: Case,
+    lines: &[u8],
+) -> io::Result<()> {
     let mut now = case;
     for line in lines.split(|c| *c == b'\n') {
         now = run_line(out, table, now, line)?;
@@ -279,23 +270,20 @@ fn form_of(sign: u8) -> Form {
 }
 
 // The case that a heading begins.
-fn case_of(table: &[u32; 256], heading: &[u8]) -> Case
-    requires table { table.now ≡ digit_table }
+fn case_of(table: &DigitTable, heading: &[u8]) -> Case
     requires heading { 9 < length heading.now }
 {
     Case {
         form: form_of(heading[9]),
-        at: hex_read::number_of(table, &heading[1..9]),
+        at: table.number_of(&heading[1..9]),
         base: image::empty(),
         patch: image::empty(),
     }
 }
 
 // Runs the first of some cases and returns how many characters it has.
-fn run_case<W: Write>(out: &mut W, table: &[u32; 256], cases: &[u8]) -> io::Result<usize>
-    requires table { table.now ≡ digit_table }
-    requires some { 0 < length cases.now }
-    ensures some { IfOk result (λ n. 0 < n) }
+fn run_case<W: Write>(out: &mut W, table: &DigitTable, cases: &[u8]) -> io::Result<usize>
+    ensures some { IfOk result (λ n. 0 < length cases.now → 0 < n) }
     ensures within { IfOk result (λ n. n ≤ length cases.now) }
 {
     let end = printing::count_before(b'\n', cases);
@@ -315,19 +303,12 @@ fn run_case<W: Write>(out: &mut W, table: &[u32; 256], cases: &[u8]) -> io::Resu
     Ok(to)
 }
 
-// Runs all cases.
-fn run_cases<W: Write>(out: &mut W, cases: &[u8]) -> io::Result<()> {
-    let table = hex_read::digit_table();
-    let mut at: usize = 0;
-    while at < cases.len() {
-        at += run_case(out, &table, &cases[at..])?;
-    }
-    Ok(())
-}
-
 fn main(rt: HostRuntime) -> io::Result<()> {
     let cases = printing::read_cases(&rt)?;
     let mut out = BufWriter::new(rt.alloc(), io::writer(&rt))?;
-    run_cases(&mut out, &cases)?;
-    out.flush()
+    printing::run_cases(
+        &mut out,
+        &cases,
+        |out, table, cases| run_case(out, table, cases),
+    )
 }

@@ -2,12 +2,12 @@
 // an answer.
 #![tactic(auto)]
 
-ghost use Rattle.std.specs.Prelude.{◌≡◌, ◌≤◌, length, OnOk};
+ghost use Rattle.std.specs.Prelude.{◌≡◌, ◌≤◌, ◌<◌, length, OnOk};
 ghost use Rattle.std.specs.Io.KnownBytes.{Appends};
-ghost use Rattle.hex_digits.specs.Tables.{digit_table};
 ghost use Rattle.printing.specs.Cases.{before};
 ghost use Rattle.printing.specs.Lines.{pairs, bytes_line, refusal_text};
 
+use hex_read::DigitTable;
 use std::io;
 use std::io::{Read, Write};
 use window::{Entry, Loaded, Refusal};
@@ -25,13 +25,32 @@ pub fn read_cases<R: Input + AllocGlobal>(rt: &R) -> io::Result<Vec<u8>> {
     Ok(cases)
 }
 
+// Runs case after case: `run_case` runs the first of some and gives how many characters it has. Behind the last all that was printed is
+// written out.
+pub fn run_cases<W: Write, F: Fn(&mut W, &DigitTable, &[u8]) -> io::Result<usize>>(
+    out: &mut W,
+    cases: &[u8],
+    run_case: F,
+) -> io::Result<()>
+    requires callable { F.IsAlwaysCallable run_case }
+    requires moves { (out : _) (table : _) (cases : _) (n : _) (left : _) → F.post run_case out table cases (Ok n) left → 0 < length cases.now → (0 < n) × (n ≤ length cases.now) }
+{
+    let table = DigitTable::new();
+    let mut rest = cases;
+    while !rest.is_empty() {
+        let n = run_case(out, &table, rest)?;
+        rest = &rest[n..];
+    }
+    out.flush()
+}
+
 // How many characters stand before the first that equals `stop`, or before the end.
 pub fn count_before(stop: u8, chars: &[u8]) -> usize
     ensures place { result ≡ before stop chars.now }
     ensures within { result ≤ length chars.now }
 {
-    for i in 0..chars.len() {
-        if chars[i] == stop {
+    for (i, c) in chars.iter().enumerate() {
+        if *c == stop {
             return i;
         }
     }
@@ -39,23 +58,22 @@ pub fn count_before(stop: u8, chars: &[u8]) -> usize
 }
 
 // Stores the bytes of pairs of digits, as many as there is room for: how many. Spaces and line ends before a pair are passed over.
-pub fn bytes_in(table: &[u32; 256], digits: &[u8], bytes: &mut [u8]) -> usize
-    requires { table.now ≡ digit_table }
+pub fn bytes_in(table: &DigitTable, digits: &[u8], bytes: &mut [u8]) -> usize
     ensures { result ≤ length bytes.new }
 {
     let mut n: usize = 0;
-    let mut i: usize = 0;
-    while i + 1 < digits.len() {
+    let mut rest = digits;
+    while let [first, second, behind @ ..] = rest {
         if n == bytes.len() {
             return n;
         }
-        if digits[i] <= b' ' {
-            i += 1;
+        if *first <= b' ' {
+            rest = &rest[1..];
             continue;
         }
-        bytes[n] = hex_read::byte_of(table, digits[i], digits[i + 1]);
+        bytes[n] = table.byte_of(*first, *second);
         n += 1;
-        i += 2;
+        rest = behind;
     }
     n
 }
@@ -64,21 +82,17 @@ pub fn bytes_in(table: &[u32; 256], digits: &[u8], bytes: &mut [u8]) -> usize
 fn significant(bytes: &[u8; 252]) -> usize
     ensures { result ≤ 252 }
 {
-    let mut n: usize = 252;
-    while n > 0 {
-        if bytes[n - 1] != 0 {
-            return n;
-        }
-        n -= 1;
-    }
-    n
+    bytes
+        .iter()
+        .rposition(|byte| *byte != 0)
+        .map_or(0, |last| last + 1)
 }
 
 // The first of some bytes, no more than a line can have, in capital digits.
 pub fn print_pairs<W: Write>(out: &mut W, bytes: &[u8]) -> io::Result<()>
     ensures { OnOk result (Appends (W.contents out.old) (W.contents out.new) (pairs bytes.now)) }
 {
-    let n = marks::smaller(bytes.len(), LINE);
+    let n = bytes.len().min(LINE);
     let mut digits = [0u8; 2 * LINE];
     hex_write::put_pairs(&mut digits, 0, &bytes[..n]);
     out.write_all(&digits[..2 * n])
@@ -123,8 +137,8 @@ pub fn print_refusal<W: Write>(out: &mut W, refusal: Refusal) -> io::Result<()>
 // The address of an entry, or that there is none.
 pub fn print_entry<W: Write>(out: &mut W, entry: Entry) -> io::Result<()> {
     match entry {
-        Entry::Absent => write!(out, "none"),
-        Entry::Present(address) => write!(out, "{address:08x}"),
+        None => write!(out, "none"),
+        Some(address) => write!(out, "{address:08x}"),
     }
 }
 

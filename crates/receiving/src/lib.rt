@@ -6,6 +6,9 @@ ghost use Rattle.window.specs.Windows.{row16};
 ghost use Rattle.window.specs.Images.{image, overlaid};
 ghost use Rattle.chips.specs.Promises.{chosen, Receivable, Received};
 
+// A row of each of four chips has so many cells.
+const MOST: usize = 64;
+
 // The new byte where the flag is 1, and the old one where it is 0: by masks, without a branch.
 fn choose(flag: u8, new: u8, old: u8) -> u8
     requires { flag ≤ 1 }
@@ -17,25 +20,23 @@ fn choose(flag: u8, new: u8, old: u8) -> u8
 
 // The marked ones of some cells, and the old bytes where none is marked. By value, so that the compiler knows it apart from what it reads
 // and takes sixteen at once.
-fn blended(old: &[u8], cells: &[u8], flags: &[u8], size: usize) -> [u8; 64]
+fn blended(old: &[u8], cells: &[u8], flags: &[u8], size: usize) -> [u8; MOST]
     requires { (size ≤ 64) × (length old.now ≡ size) × (size ≤ length cells.now) × (size ≤ length flags.now) × (row16 (take size flags.now) ≡ false) }
     ensures { take size result ≡ overlaid old.now (image (take size cells.now) (take size flags.now)) }
 {
-    let mut bytes = [0u8; 64];
-    let mut i: usize = 0;
-    while i < size {
+    let mut bytes = [0; MOST];
+    for i in 0..size {
         bytes[i] = choose(flags[i], cells[i], old[i]);
-        i += 1;
     }
     bytes
 }
 
 // The first ones of some flags. By value, for the same reason.
-fn held(flags: &[u8], size: usize) -> [u8; 64]
+fn held(flags: &[u8], size: usize) -> [u8; MOST]
     requires { (size ≤ 64) × (size ≤ length flags.now) }
     ensures { take size result ≡ take size flags.now }
 {
-    let mut bytes = [0u8; 64];
+    let mut bytes = [0; MOST];
     bytes[..size].copy_from_slice(&flags[..size]);
     bytes
 }
@@ -52,33 +53,16 @@ fn receive(memory: &mut [u8], marks: &mut [u8], cells: &[u8], flags: &[u8], size
     marks.copy_from_slice(&kept[..size]);
 }
 
-// Receives a row of one chip: as many cells as the part that is lent has. All marks are written, and the bytes of unmarked cells stay. A
-// whole row is named by its size, so that the compiler unrolls it.
+// Receives as many cells as the part that is lent has. All marks are written, and the bytes of unmarked cells stay. Whole rows of one, two
+// and four chips are named by their sizes, so that the compiler unrolls them.
 pub fn receive_row(memory: &mut [u8], marks: &mut [u8], cells: &[u8], flags: &[u8])
     requires { Receivable memory.old marks.old cells.now flags.now }
     ensures { Received memory.old cells.now flags.now memory.new marks.new }
 {
-    let size = memory.len();
-    if size == 16 {
-        receive(memory, marks, cells, flags, 16);
-        return;
+    match memory.len() {
+        16 => receive(memory, marks, cells, flags, 16),
+        32 => receive(memory, marks, cells, flags, 32),
+        64 => receive(memory, marks, cells, flags, 64),
+        size => receive(memory, marks, cells, flags, size),
     }
-    receive(memory, marks, cells, flags, size);
-}
-
-// The same for a row of each of two or four chips.
-pub fn receive_rows(memory: &mut [u8], marks: &mut [u8], cells: &[u8], flags: &[u8])
-    requires { Receivable memory.old marks.old cells.now flags.now }
-    ensures { Received memory.old cells.now flags.now memory.new marks.new }
-{
-    let size = memory.len();
-    if size == 32 {
-        receive(memory, marks, cells, flags, 32);
-        return;
-    }
-    if size == 64 {
-        receive(memory, marks, cells, flags, 64);
-        return;
-    }
-    receive(memory, marks, cells, flags, size);
 }

@@ -2,131 +2,97 @@
 // sixteen at once.
 #![tactic(auto)]
 
-ghost use Rattle.std.specs.Prelude.{◌+◌, ◌*◌, ◌/◌, ◌%◌, ◌≤◌, ◌<◌, [], length, get_or};
-ghost use Rattle.chips.specs.Promises.{Count, Filled};
-ghost use Rattle.rows.specs.Rows.{RowOf, RowsOf, WordsOf, LanesOf};
+ghost use Rattle.std.specs.Prelude.{◌≡◌, ◌*◌, ◌≤◌, ◌<◌, length};
+ghost use Rattle.chips.specs.Promises.{Count};
+ghost use Rattle.rows.specs.Rows.{RowOf, RowsOf, WordOf, WordsOf, Lane};
 
 // A row has so many cells of each chip.
 const ROW: usize = 16;
 
 // A chip's cells among those of k chips, in a row of so many.
-fn row_of(cells: &[u8], k: usize, chip: usize, size: usize) -> [u8; 16]
+fn row_of(cells: &[u8], k: usize, chip: usize, size: usize) -> [u8; ROW]
     requires { (size ≤ 16) × (chip < k) × (k * size ≤ length cells.now) }
     ensures { RowOf k chip size cells.now result }
 {
-    let mut row = [0u8; 16];
-    let mut i: usize = 0;
-    while i < size {
+    let mut row = [0; ROW];
+    for i in 0..size {
         row[i] = cells[k * i + chip];
-        i += 1;
     }
     row
 }
 
 // A short row a chip.
-fn short_rows(cells: &[u8], k: usize, size: usize) -> [[u8; 16]; 4]
-    requires { (size ≤ 16) × Count k × (k * size ≤ length cells.now) }
+fn short_rows(cells: &[u8], k: usize, size: usize) -> [[u8; ROW]; 4]
+    requires { (size ≤ 16) × (k ≤ 4) × (k * size ≤ length cells.now) }
     ensures { RowsOf k size cells.now result }
 {
-    let mut rows = [[0u8; 16]; 4];
-    rows[0] = row_of(cells, k, 0, size);
-    rows[1] = row_of(cells, k, 1, size);
-    if k == 2 {
-        return rows;
+    let mut rows = [[0; ROW]; 4];
+    for chip in 0..k {
+        rows[chip] = row_of(cells, k, chip, size);
     }
-    rows[2] = row_of(cells, k, 2, size);
-    rows[3] = row_of(cells, k, 3, size);
     rows
 }
 
-// Sixteen numbers of two cells, low byte first.
-fn pairs_of(cells: &[u8]) -> [u32; 16]
-    requires { 32 ≤ length cells.now }
-    ensures { WordsOf 2 16 cells.now result }
+// A number of K cells, low byte first.
+fn word_of<const K: usize>(cells: &[u8]) -> u32
+    requires { (K ≤ 4) × (length cells.now ≡ K) }
+    ensures { WordOf K cells.now result }
 {
-    let mut words = [0u32; 16];
-    let mut i: usize = 0;
-    while i < ROW {
-        words[i] = cells[2 * i] as u32 + 256 * cells[2 * i + 1] as u32;
-        i += 1;
+    let mut bytes = [0; 4];
+    bytes[..K].copy_from_slice(cells);
+    u32::from_le_bytes(bytes)
+}
+
+// Sixteen numbers of K cells.
+fn words_of<const K: usize>(cells: &[u8]) -> [u32; ROW]
+    requires { (K ≤ 4) × (K * 16 ≤ length cells.now) }
+    ensures { WordsOf K 16 cells.now result }
+{
+    let mut words = [0; ROW];
+    for i in 0..ROW {
+        words[i] = word_of::<K>(&cells[K * i..K * (i + 1)]);
     }
     words
 }
 
-// Sixteen numbers of four cells, low byte first.
-fn words_of(cells: &[u8]) -> [u32; 16]
-    requires { 64 ≤ length cells.now }
-    ensures { WordsOf 4 16 cells.now result }
+// One byte of each number.
+fn lane(words: &[u32; ROW], c: usize) -> [u8; ROW]
+    requires { c < 4 }
+    ensures { Lane c words.now result }
 {
-    let mut words = [0u32; 16];
-    let mut i: usize = 0;
-    while i < ROW {
-        words[i] = cells[4 * i] as u32
-            + 256 * cells[4 * i + 1] as u32
-            + 65536 * cells[4 * i + 2] as u32
-            + 16777216 * cells[4 * i + 3] as u32;
-        i += 1;
-    }
-    words
-}
-
-// One byte of each number: the one that counts so many.
-fn lane(words: &[u32; 16], unit: u32) -> [u8; 16]
-    requires { 0 < unit }
-    ensures { Filled (λ i. get_or words.now i 0 / unit % 256) 16 result }
-{
-    let mut row = [0u8; 16];
-    let mut i: usize = 0;
-    while i < ROW {
-        row[i] = (words[i] / unit % 256) as u8;
-        i += 1;
+    let mut row = [0; ROW];
+    for i in 0..ROW {
+        row[i] = words[i].to_le_bytes()[c];
     }
     row
 }
 
-// The rows of two chips.
-fn two_rows(words: &[u32; 16]) -> [[u8; 16]; 4]
-    ensures { LanesOf 2 words.now result }
+// A whole row a chip, of K chips.
+fn whole_rows<const K: usize>(cells: &[u8]) -> [[u8; ROW]; 4]
+    requires { (K ≤ 4) × (K * 16 ≤ length cells.now) }
+    ensures { RowsOf K 16 cells.now result }
 {
-    let mut rows = [[0u8; 16]; 4];
-    rows[0] = lane(words, 1);
-    rows[1] = lane(words, 256);
+    let words = words_of::<K>(cells);
+    let mut rows = [[0; ROW]; 4];
+    for chip in 0..K {
+        rows[chip] = lane(&words, chip);
+    }
     rows
 }
 
-// The rows of four chips.
-fn four_rows(words: &[u32; 16]) -> [[u8; 16]; 4]
-    ensures { LanesOf 4 words.now result }
-{
-    let mut rows = [[0u8; 16]; 4];
-    rows[0] = lane(words, 1);
-    rows[1] = lane(words, 256);
-    rows[2] = lane(words, 65536);
-    rows[3] = lane(words, 16777216);
-    rows
-}
-
-// One dealt row a chip, of so many cells a chip: of the cells, and of their flags.
-pub fn rows_of(cells: &[u8], flags: &[u8], k: usize, size: usize) -> [[[u8; 16]; 4]; 2]
+// One dealt row a chip, of so many cells a chip: of the cells, and of their flags. Both in one call, which is faster.
+pub fn rows_of(
+    cells: &[u8],
+    flags: &[u8],
+    k: usize,
+    size: usize,
+) -> ([[u8; ROW]; 4], [[u8; ROW]; 4])
     requires { (size ≤ 16) × Count k × (k * size ≤ length cells.now) × (k * size ≤ length flags.now) }
-    ensures { RowsOf k size cells.now (get_or result 0 []) × RowsOf k size flags.now (get_or result 1 []) }
+    ensures { RowsOf k size cells.now result.0 × RowsOf k size flags.now result.1 }
 {
-    let mut rows = [[[0u8; 16]; 4]; 2];
-    if size != ROW {
-        rows[0] = short_rows(cells, k, size);
-        rows[1] = short_rows(flags, k, size);
-        return rows;
+    match (size, k) {
+        (ROW, 2) => (whole_rows::<2>(cells), whole_rows::<2>(flags)),
+        (ROW, 4) => (whole_rows::<4>(cells), whole_rows::<4>(flags)),
+        _ => (short_rows(cells, k, size), short_rows(flags, k, size)),
     }
-    if k == 2 {
-        let bytes = pairs_of(cells);
-        let marks = pairs_of(flags);
-        rows[0] = two_rows(&bytes);
-        rows[1] = two_rows(&marks);
-        return rows;
-    }
-    let bytes = words_of(cells);
-    let marks = words_of(flags);
-    rows[0] = four_rows(&bytes);
-    rows[1] = four_rows(&marks);
-    rows
 }

@@ -23,7 +23,7 @@ pub fn run_end(form: Form, marks: &[u8], cells: usize, at: usize, most: usize) -
     requires { (at ≤ cells) × (length marks.now ≡ mark_bytes form cells) }
     ensures { result ≡ at + run_on most (drop at (flags form cells marks.now)) }
 {
-    let to = at + marks::smaller(most, cells - at);
+    let to = at + most.min(cells - at);
     match form {
         Form::Bytes => mark_runs::end_byte(marks, at, to),
         Form::Packed => bit_runs::next_clear(marks, at, to),

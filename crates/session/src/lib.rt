@@ -44,50 +44,28 @@ pub struct Session {
 fn is_possible(session: Session) -> bool
     ensures { result ≡ possible (going_of session) }
 {
-    let total = session.total;
-    let place = session.place;
-    let tally = session.tally;
-    let state = tally.state;
+    let Session {
+        total,
+        place,
+        tally: Tally { state, .. },
+        ..
+    } = session;
     let held = marks::smaller(session.held, HELD);
-    if total > MOST {
-        return false;
-    }
-    if place > total {
-        return false;
-    }
-    if held > total - place {
-        return false;
-    }
-    if state.number > place {
-        return false;
-    }
-    if state.records > place {
-        return false;
-    }
-    state.cells <= place
+    total <= MOST
+        && place <= total
+        && held <= total - place
+        && state.number <= place
+        && state.records <= place
+        && state.cells <= place
 }
 
 // Row 1 in a later call: as at begin, or there are not as many cells as at begin, or no call gives out the numbers of this state.
 pub fn is_barred(session: Session, base: u32, memory: &[u8], marks: &[u8]) -> bool
     ensures { result ≡ row1_later_in session.form (window_of base memory.now marks.now) (going_of session) }
 {
-    let form = session.form;
-    if !marks::is_allowed(form, base, memory, marks) {
-        return true;
-    }
-    if memory.len() != session.size {
-        return true;
-    }
-    !is_possible(session)
-}
-
-// A state that is refused.
-fn stop(session: Session, refusal: Refusal) -> Session
-    ensures { (result.refusal ≡ refusal) × (result.form ≡ session.form) }
-{
-    let mut s = session;
-    s.refusal = refusal;
-    s
+    !marks::is_allowed(session.form, base, memory, marks)
+        || memory.len() != session.size
+        || !is_possible(session)
 }
 
 // Refuses a load: all marks are cleared.
@@ -98,7 +76,7 @@ pub fn halt(session: Session, refusal: Refusal, marks: &mut [u8]) -> Session
     ensures form { result.form ≡ session.form }
 {
     marks::clear(marks);
-    stop(session, refusal)
+    Session { refusal, ..session }
 }
 
 // The header of so many bytes, zero behind them.

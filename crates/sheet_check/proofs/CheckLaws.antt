@@ -5,6 +5,7 @@ use native.Mathlib.Omega.{arith}
 use mathlib.Core.Bool.{false}
 use mathlib.Core.List.{List, ◌∷◌}
 use lib.ListN.{length, replicate}
+use Rattle.std.specs.Prelude.{Option, Some, None, Result, Ok, Err}
 use Rattle.window.specs.declared.Refusal.{Refusal}
 use Rattle.window.specs.Images.{Image, blank, marks_of}
 use Rattle.window.specs.Plans.{refusal, Outcome, row12, row13, filled}
@@ -12,9 +13,9 @@ use Rattle.window.specs.Plans.Outcome.{refused}
 use Rattle.window.specs.Marks.{claim_row, claimed}
 use Rattle.window.proofs.ClaimLaws.{claim_refused, claim_granted, claim_marks}
 use Rattle.symbol_table.specs.Symbols.{Symbol}
-use Rattle.sheet_fields.specs.declared.Pair.{Pair}
-use Rattle.sheet_fields.specs.declared.Pair.TheVariants.{End, Bad, Store}
-use Rattle.sheet_check.specs.declared.Checked.TheVariants.{Refused, Accepted}
+use Rattle.operands.specs.Values.{row_of}
+use Rattle.sheet_fields.specs.declared.Fault.{Fault}
+use Rattle.sheet_fields.specs.declared.Store.{Store}
 use Rattle.sheet_fields.specs.Fields.{fields_from}
 use Rattle.sheets.specs.Sheets.{planned}
 use Rattle.sheet_fields.specs.Pairs.{pair_at}
@@ -44,60 +45,63 @@ going_start S sheet base marks m =
     }
 
 -- an answer that is a refusal
-tell : (f : Refusal) (o : Outcome) (marks : List ℕ) → refused f ≡ o → Told o (Refused f) marks
-tell f o marks e = subst (λ (x : Outcome). Told x (Refused f) marks) e refl
+tell : (f : Refusal) (o : Outcome) (marks : List ℕ) → refused f ≡ o → Told o (Err f) marks
+tell f o marks e = subst (λ (x : Outcome). Told x (Err f) marks) e refl
 
-module _ (S : List Symbol) (sheet : List ℕ) (base size : ℕ) (marks : List ℕ) (at k n c : ℕ) (g : Going S sheet base size marks at k n c) where
+module _ {S : List Symbol} {sheet : List ℕ} {base size : ℕ} {marks : List ℕ} {at k n c : ℕ} (g : Going S sheet base size marks at k n c) where
   abbrev whole : Outcome
   whole = whole_of S sheet base size
 
-  module _ (x : Pair) (q : x ≡ pair_at S sheet at) where
-    -- no field is left
-    pub told_end : x ≡ End → Told whole (Accepted n c) marks
-    told_end e = subst (λ (o : Outcome). Told o (Accepted n c) marks) (walk_end S sheet base size g.img k n c at g.walk (sym e ∙ q)) (refl, refl, g.marks_are)
+  -- no field is left
+  pub told_end : None ≡ pair_at S sheet at → Told whole (Ok (record { records = n; cells = c })) marks
+  told_end q =
+      subst (λ (o : Outcome). Told o (Ok (record { records = n; cells = c })) marks) (walk_end S sheet base size g.img k n c at g.walk q) (refl, refl, g.marks_are)
 
+  module _ (b : Fault) (q : Some (Err b) ≡ pair_at S sheet at) where
     -- rows 25, 26 and 27
-    pub told_bad : (r o p : ℕ) → x ≡ Bad r o p → Told whole (Refused (refusal r (k + o) p)) marks
-    told_bad r o p e = tell _ whole marks (walk_bad S sheet base size g.img k n c at g.walk r o p (sym e ∙ q))
+    pub told_bad : Told whole (Err (refusal (row_of b.error) (k + b.which) b.place)) marks
+    told_bad = tell _ whole marks (walk_bad S sheet base size g.img k n c at g.walk b q)
 
     -- the field's number fits
-    pub which_small : (r o p : ℕ) → x ≡ Bad r o p → o ≤ 2
-    which_small r o p e = bad_which S sheet base size g.img k n c at g.walk r o p (sym e ∙ q)
+    pub which_small : b.which ≤ 2
+    which_small = bad_which S sheet base size g.img k n c at g.walk b q
 
-    module _ (p a f t : ℕ) (e : x ≡ Store p a f t) where
-      -- where the bytes stand
-      pub where_at : (at + 6 ≤ f) × (f ≤ t) × (t ≤ length sheet)
-      where_at = store_within S sheet base size g.img k n c at g.walk p a f t (sym e ∙ q)
+  module _ (p : Store) (q : Some (Ok p) ≡ pair_at S sheet at) where
+    abbrev bytes : List ℕ
+    bytes = bytes_at sheet p.from p.to
 
-      long : t - f ≡ length (bytes_at sheet f t)
-      long = sym (bytes_long sheet f t where_at.1 where_at.2)
+    -- where the bytes stand
+    pub where_at : (at + 6 ≤ p.from) × (p.from ≤ p.to) × (p.to ≤ length sheet)
+    where_at = store_within S sheet base size g.img k n c at g.walk p q
 
-      module _ (row : ℕ) (d : row ≡ claim_row base marks a (t - f)) where
-        row_is : row ≡ claim_row base (marks_of g.img) a (length (bytes_at sheet f t))
-        row_is = d ∙ (λ i. claim_row base (g.marks_are i) a (long i))
+    long : p.to - p.from ≡ length bytes
+    long = sym (bytes_long sheet p.from p.to where_at.1 where_at.2)
 
-        -- rows 12 and 13
-        pub told_claim : (marks' : List ℕ) → (row ≡ 0 → ⊥) → Told whole (Refused (refusal row (k + 2) p)) marks'
-        told_claim marks' z =
-            tell _ whole marks'
-            (sym (claim_refused base g.img a (bytes_at sheet f t) row (k + 2) p
-            (planned S (k + 2) (n + 1) (c + length (bytes_at sheet f t)) (fields_from (g.walk.fuel - 1 - 1) sheet t)) row_is z)
-            ∙ walk_store S sheet base size g.img k n c at g.walk p a f t (sym e ∙ q))
+    module _ (row : ℕ) (d : row ≡ claim_row base marks p.address (p.to - p.from)) where
+      row_is : row ≡ claim_row base (marks_of g.img) p.address (length bytes)
+      row_is = d ∙ (λ i. claim_row base (g.marks_are i) p.address (long i))
 
-        -- the cells are claimed, and the walk goes on
-        pub going_put : (marks' : List ℕ) → row ≡ 0 → marks' ≡ claimed base marks a (t - f) → Going S sheet base size marks' t (k + 2) (n + 1) (c + (t - f))
-        going_put marks' z m =
-            let granted : 0 ≡ claim_row base (marks_of g.img) a (length (bytes_at sheet f t)) = sym z ∙ row_is in
-            let free : (row12 base (length g.img) a (length (bytes_at sheet f t)) ≡ false) × (row13 base g.img a (length (bytes_at sheet f t)) ≡ false)
-            = claim_granted base g.img a (bytes_at sheet f t) granted in
-            record {
-              img = filled base g.img a (bytes_at sheet f t);
-              walk = subst (λ (j : ℕ). Walk S sheet base size (filled base g.img a (bytes_at sheet f t)) (k + 2) (n + 1) (c + j) t) (sym long)
-                  (walk_put S sheet base size g.img k n c at g.walk p a f t (sym e ∙ q) free.0 free.1);
-              marks_are = m ∙ (λ i. claimed base (g.marks_are i) a (long i)) ∙ claim_marks base g.img a (bytes_at sheet f t) granted;
-              few = (
-                omega (arith, g.few.0, where_at.0, where_at.1),
-                omega (arith, g.few.1, where_at.0, where_at.1),
-                omega (arith, g.few.2, where_at.0, where_at.1),
-              );
-            }
+      -- rows 12 and 13
+      pub told_claim : (marks' : List ℕ) → (row ≡ 0 → ⊥) → Told whole (Err (refusal row (k + 2) p.place)) marks'
+      told_claim marks' z =
+          tell _ whole marks'
+          (sym (claim_refused base g.img p.address bytes row (k + 2) p.place (planned S (k + 2) (n + 1) (c + length bytes) (fields_from (g.walk.fuel - 1 - 1) sheet p.to)) row_is z)
+          ∙ walk_store S sheet base size g.img k n c at g.walk p q)
+
+      -- the cells are claimed, and the walk goes on
+      pub going_put : (marks' : List ℕ) → row ≡ 0 → marks' ≡ claimed base marks p.address (p.to - p.from) → Going S sheet base size marks' p.to (k + 2) (n + 1) (c + (p.to - p.from))
+      going_put marks' z m =
+          let granted : 0 ≡ claim_row base (marks_of g.img) p.address (length bytes) = sym z ∙ row_is in
+          let free : (row12 base (length g.img) p.address (length bytes) ≡ false) × (row13 base g.img p.address (length bytes) ≡ false)
+          = claim_granted base g.img p.address bytes granted in
+          record {
+            img = filled base g.img p.address bytes;
+            walk = subst (λ (j : ℕ). Walk S sheet base size (filled base g.img p.address bytes) (k + 2) (n + 1) (c + j) p.to) (sym long)
+                (walk_put S sheet base size g.img k n c at g.walk p q free.0 free.1);
+            marks_are = m ∙ (λ i. claimed base (g.marks_are i) p.address (long i)) ∙ claim_marks base g.img p.address bytes granted;
+            few = (
+              omega (arith, g.few.0, where_at.0, where_at.1),
+              omega (arith, g.few.1, where_at.0, where_at.1),
+              omega (arith, g.few.2, where_at.0, where_at.1),
+            );
+          }

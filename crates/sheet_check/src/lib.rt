@@ -9,52 +9,46 @@ ghost use Rattle.sheets.specs.Sheets.{sheet_plan};
 ghost use Rattle.sheet_check.specs.Checks.{Told};
 
 use marks::Form;
-use sheet_fields::Pair;
 use window::Refusal;
 
-// What checking a sheet finds.
+// What an accepted sheet has: its pairs, and the cells that they address.
 #[derive(Clone, Copy)]
-pub enum Checked {
-    Refused(Refusal),
-    Accepted { records: usize, cells: usize },
+pub struct Accepted {
+    pub records: usize,
+    pub cells: usize,
 }
 
 // Checks a sheet against a window whose marks are all zero, and marks the cells that it addresses.
-pub fn check_sheet(table: &[u8], sheet: &[u8], base: usize, marks: &mut [u8]) -> Checked
+pub fn check_sheet(
+    table: &[u8],
+    sheet: &[u8],
+    base: usize,
+    marks: &mut [u8],
+) -> Result<Accepted, Refusal>
     requires { marks.old ≡ replicate (length marks.old) 0 }
     ensures { Told (placed base (blank (length marks.old)) (sheet_plan (symbols_in table.now) sheet.now)) result marks.new }
 {
-    let mut at: usize = 0;
-    let mut fields: usize = 0;
-    let mut records: usize = 0;
-    let mut cells: usize = 0;
-    loop {
-        let pair = sheet_fields::pair_at(table, sheet, at);
-        match pair {
-            Pair::End => return Checked::Accepted { records, cells },
-            Pair::Bad {
-                reason,
-                which,
-                place,
-            } => return Checked::Refused(window::refuse(reason, fields + which, place)),
-            Pair::Store {
-                place,
-                address,
-                from,
-                to,
-            } => {
-                let first = address as usize;
-                let size = to - from;
-                let reason = claims::claim(Form::Bytes, marks, marks.len(), base, first, size);
-                if reason != 0 {
-                    return Checked::Refused(window::refuse(reason, fields + 2, place));
-                }
-                fields += 2;
-                records += 1;
-                cells += size;
-                at = to;
-                continue;
+    let mut at = 0;
+    let mut fields = 0;
+    let mut records = 0;
+    let mut cells = 0;
+    while let Some(pair) = sheet_fields::pair_at(table, sheet, at) {
+        let store = match pair {
+            Ok(store) => store,
+            Err(fault) => {
+                return Err(window::refuse(fault.error.row(), fields + fault.which, fault.place));
             }
+        };
+        let size = store.to - store.from;
+        let first = store.address as usize;
+        let claimed = claims::claim(Form::Bytes, marks, marks.len(), base, first, size);
+        if let Err(clash) = claimed {
+            return Err(window::refuse(clash.row(), fields + 2, store.place));
         }
+        fields += 2;
+        records += 1;
+        cells += size;
+        at = store.to;
     }
+    Ok(Accepted { records, cells })
 }

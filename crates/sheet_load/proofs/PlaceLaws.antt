@@ -5,6 +5,7 @@ use native.Mathlib.Omega.{arith}
 use mathlib.Core.Bool.{true, false}
 use mathlib.Core.List.{List, []}
 use lib.ListN.{length, replicate, length-replicate}
+use Rattle.std.specs.Prelude.{Result, Ok, Err}
 use Rattle.window.specs.declared.Refusal.{Refusal}
 use Rattle.window.specs.Windows.{Window, row1, window_of}
 use Rattle.window.specs.Images.{blank}
@@ -14,12 +15,11 @@ use Rattle.window.specs.declared.Loaded.{Loaded}
 use Rattle.window.proofs.RowLaws.{allowed_inv}
 use Rattle.text.specs.Load.{load_answer, memory_after, marks_after}
 use Rattle.symbol_table.specs.Symbols.{symbols_in}
-use Rattle.symbols.specs.declared.Block.TheVariants.{Bad, Table}
+use Rattle.symbols.specs.declared.Table.{Table}
 use Rattle.symbols.specs.Blocks.{stretch, block_of}
 use Rattle.symbol_load.specs.Loads.{row1_or}
 use Rattle.symbol_load.proofs.LoadLaws.{kept, cleared}
-use Rattle.sheet_check.specs.declared.Checked.{Checked}
-use Rattle.sheet_check.specs.declared.Checked.TheVariants.{Refused, Accepted}
+use Rattle.sheet_check.specs.declared.Accepted.{Accepted}
 use Rattle.sheets.specs.Sheets.{summary, sheet_plan, table_outcome, with_block, sheet_outcome}
 use Rattle.sheet_check.specs.Checks.{Told}
 
@@ -35,27 +35,26 @@ answered_refused memory marks o f e r q marks' m = rw e (q, (refl, m))
 -- ---- what the checking pass told
 
 -- a refusal of the check is the outcome's
-pub told_no : (o : Outcome) (f : Refusal) (marks : List ℕ) → Told o (Refused f) marks → o ≡ refused f
-told_no (refused g) f marks t = ap refused (same (sym t))
+pub told_no : (o : Outcome) (f : Refusal) (marks : List ℕ) → Told o (Err f) marks → o ≡ refused f
+told_no (refused g) f marks t = cc
+told_no (accepted s img) f marks t = absurd (no_answer t.0)
   where
-    same : {x y : Refusal} → Refused x ≡ Refused y → x ≡ y
-    same e = cc
-told_no (accepted s img) f marks t = absurd (let q : Refused f ≡ Accepted s.records s.cells = t.0 in let z : ◌≡◌ {A = ℕ} 0 1 = cc in omega arith)
+    no_answer : {x : Accepted} → ◌≡◌ {A = Result Accepted Refusal} (Err f) (Ok x) → ⊥
+    no_answer e = cc
 
 -- what the check has accepted can be stored
-pub told_accepts : (o : Outcome) (n c : ℕ) (marks : List ℕ) → Told o (Accepted n c) marks → Accepts o
-told_accepts (refused g) n c marks t = absurd (let z : ◌≡◌ {A = ℕ} 0 1 = cc in omega arith)
-told_accepts (accepted s img) n c marks t = record { sum = s; img = img; is = refl }
+pub told_accepts : (o : Outcome) (a : Accepted) (marks : List ℕ) → Told o (Ok a) marks → Accepts o
+told_accepts (refused g) a marks t = absurd (let z : ◌≡◌ {A = ℕ} 0 1 = cc in omega arith)
+told_accepts (accepted s img) a marks t = record { sum = s; img = img; is = refl }
 
 -- an accepted sheet
-pub answered_accepted : (memory marks : List ℕ) (o : Outcome) (n c : ℕ) (marks' : List ℕ) → Told o (Accepted n c) marks'
-    → (r : Loaded) → r ≡ load_answer (accepted (summary n c) []) → (memory' : List ℕ) → memory' ≡ memory_after memory o → Answered memory marks o r memory' marks'
-answered_accepted memory marks (refused g) n c marks' t r q memory' m = absurd (let z : ◌≡◌ {A = ℕ} 0 1 = cc in omega arith)
-answered_accepted memory marks (accepted s img) n c marks' t r q memory' m =
-    let e : Accepted n c ≡ Accepted s.records s.cells = t.0 in
-    let p : n ≡ s.records = cc in
-    let k : c ≡ s.cells = cc in
-    (q ∙ (λ i. load_answer (accepted (summary (p i) (k i)) [])) ∙ (λ i. load_answer (accepted (sym t.1 i) img)), (m, t.2))
+pub answered_accepted : (memory marks : List ℕ) (o : Outcome) (a : Accepted) (marks' : List ℕ) → Told o (Ok a) marks'
+    → (r : Loaded) → r ≡ load_answer (accepted (summary a.records a.cells) []) → (memory' : List ℕ) → memory' ≡ memory_after memory o → Answered memory marks o r memory' marks'
+answered_accepted memory marks (refused g) a marks' t r q memory' m = absurd (let z : ◌≡◌ {A = ℕ} 0 1 = cc in omega arith)
+answered_accepted memory marks (accepted s img) a marks' t r q memory' m =
+    let e : ◌≡◌ {A = Result Accepted Refusal} (Ok a) (Ok (record { records = s.records; cells = s.cells })) = t.0 in
+    let p : a ≡ record { records = s.records; cells = s.cells } = cc in
+    (q ∙ (λ i. load_answer (accepted (summary (p i).records (p i).cells) [])) ∙ (λ i. load_answer (accepted (sym t.1 i) img)), (m, t.2))
 
 -- ---- row 1, and the sheet
 
@@ -100,7 +99,7 @@ module _ (base : ℕ) (memory marks table sheet : List ℕ) where
     clean_is = c ∙ ap (λ (k : ℕ). replicate k 0) (sym (ap length c ∙ length-replicate (length marks) 0))
 
     -- what the check told of them is told of the window
-    pub told_window : (x : Checked) (used : List ℕ) → Told (placed base (blank (length clean)) (sheet_plan (symbols_in table) sheet)) x used → Told sheet_alone x used
+    pub told_window : (x : Result Accepted Refusal) (used : List ℕ) → Told (placed base (blank (length clean)) (sheet_plan (symbols_in table) sheet)) x used → Told sheet_alone x used
     told_window x used t = subst (λ (k : ℕ). Told (placed base (blank k) (sheet_plan (symbols_in table) sheet)) x used) clean_long t
 
     module _ (used : List ℕ) (same : length used ≡ length clean) where
@@ -108,7 +107,7 @@ module _ (base : ℕ) (memory marks table sheet : List ℕ) where
       used_long = same ∙ ap length c ∙ length-replicate (length marks) 0
 
       -- a row of the sheet
-      pub answered_row : (f : Refusal) → Told sheet_alone (Refused f) used → (r : Loaded) → r ≡ load_answer (row1_or (window_of base memory used) (refused f))
+      pub answered_row : (f : Refusal) → Told sheet_alone (Err f) used → (r : Loaded) → r ≡ load_answer (row1_or (window_of base memory used) (refused f))
           → (marks' : List ℕ) → marks' ≡ replicate (length used) 0 → Answered memory marks (table_outcome W table sheet) r memory marks'
       answered_row f t r q marks' m =
           let passed : row1 (window_of base memory used) ≡ false = same_row used used_long ∙ fit in
@@ -117,18 +116,18 @@ module _ (base : ℕ) (memory marks table sheet : List ℕ) where
           (m ∙ ap (λ (k : ℕ). replicate k 0) used_long)
 
       -- none
-      pub answered_none : (n k : ℕ) → Told sheet_alone (Accepted n k) used → (r : Loaded) → r ≡ load_answer (accepted (summary n k) []) → (memory' : List ℕ)
+      pub answered_none : (a : Accepted) → Told sheet_alone (Ok a) used → (r : Loaded) → r ≡ load_answer (accepted (summary a.records a.cells) []) → (memory' : List ℕ)
           → memory' ≡ memory_after memory sheet_alone → Answered memory marks (table_outcome W table sheet) r memory' used
-      answered_none n k t r q memory' m =
-          subst (λ (o : Outcome). Answered memory marks o r memory' used) (alone fit) (answered_accepted memory marks sheet_alone n k used t r q memory' m)
+      answered_none a t r q memory' m =
+          subst (λ (o : Outcome). Answered memory marks o r memory' used) (alone fit) (answered_accepted memory marks sheet_alone a used t r q memory' m)
 
 -- ---- the block
 
 module _ (base : ℕ) (memory marks text sheet : List ℕ) where
-  pub block_refused : (r n p : ℕ) → Bad r n p ≡ block_of text → row1_or (window_of base memory marks) (refused (refusal r n p)) ≡ sheet_outcome (window_of base memory marks) text sheet
+  pub block_refused : (f : Refusal) → Err f ≡ block_of text → row1_or (window_of base memory marks) (refused f) ≡ sheet_outcome (window_of base memory marks) text sheet
   unfolding sheet_outcome
-  block_refused r n p e = ap (with_block (window_of base memory marks) text sheet) e
+  block_refused f e = ap (with_block (window_of base memory marks) text sheet) e
 
-  pub block_placed : (f t : ℕ) → Table f t ≡ block_of text → table_outcome (window_of base memory marks) (stretch text f t) sheet ≡ sheet_outcome (window_of base memory marks) text sheet
+  pub block_placed : (t : Table) → Ok t ≡ block_of text → table_outcome (window_of base memory marks) (stretch text t.from t.to) sheet ≡ sheet_outcome (window_of base memory marks) text sheet
   unfolding sheet_outcome
-  block_placed f t e = ap (with_block (window_of base memory marks) text sheet) e
+  block_placed t e = ap (with_block (window_of base memory marks) text sheet) e

@@ -7,9 +7,7 @@ ghost use Rattle.text.specs.Load.{load_answer, memory_after, marks_after};
 ghost use Rattle.sheets.specs.Sheets.{table_outcome, sheet_outcome};
 
 use marks::Form;
-use sheet_check::Checked;
-use symbols::Block;
-use window::{Entry, Loaded};
+use window::Loaded;
 
 // Places a sheet in a window, with the symbols of a table: first it is checked, then it is stored.
 fn place_sheet(table: &[u8], sheet: &[u8], base: u32, memory: &mut [u8], marks: &mut [u8]) -> Loaded
@@ -17,22 +15,17 @@ fn place_sheet(table: &[u8], sheet: &[u8], base: u32, memory: &mut [u8], marks: 
     ensures memory { memory.new ≡ memory_after memory.old (table_outcome (window_of base memory.old marks.old) table.now sheet.now) }
     ensures marks { marks.new ≡ marks_after marks.old (table_outcome (window_of base memory.old marks.old) table.now sheet.now) }
 {
-    let allowed = marks::is_allowed(Form::Bytes, base, memory, marks);
-    if !allowed {
-        let refusal = window::refuse(1, 0, 0);
-        return symbol_load::decline(refusal, base, memory, marks);
+    if !marks::is_allowed(Form::Bytes, base, memory, marks) {
+        return symbol_load::decline(window::refuse(1, 0, 0), base, memory, marks);
     }
     marks::clear(marks);
     let low = base as usize;
-    let checked = sheet_check::check_sheet(table, sheet, low, marks);
-    match checked {
-        Checked::Refused(refusal) => {
-            return symbol_load::decline(refusal, base, memory, marks);
-        }
-        Checked::Accepted { records, cells } => {
+    match sheet_check::check_sheet(table, sheet, low, marks) {
+        Err(refusal) => symbol_load::decline(refusal, base, memory, marks),
+        Ok(found) => {
             sheet_store::store_sheet(table, sheet, low, memory);
             let header = window::no_header();
-            return answers::accepted_answer(header, Entry::Absent, records, cells);
+            answers::accepted_answer(header, None, found.records, found.cells)
         }
     }
 }
@@ -50,18 +43,8 @@ pub fn load_sheet(
     ensures memory { memory.new ≡ memory_after memory.old (sheet_outcome (window_of base memory.old marks.old) text.now sheet.now) }
     ensures marks { marks.new ≡ marks_after marks.old (sheet_outcome (window_of base memory.old marks.old) text.now sheet.now) }
 {
-    let block = symbols::read_block(text);
-    match block {
-        Block::Bad {
-            reason,
-            ordinal,
-            place,
-        } => {
-            let refusal = window::refuse(reason, ordinal, place);
-            return symbol_load::decline(refusal, base, memory, marks);
-        }
-        Block::Table { from, to } => {
-            return place_sheet(&text[from..to], sheet, base, memory, marks);
-        }
+    match symbols::read_block(text) {
+        Err(refusal) => symbol_load::decline(refusal, base, memory, marks),
+        Ok(block) => place_sheet(&text[block.from..block.to], sheet, base, memory, marks),
     }
 }

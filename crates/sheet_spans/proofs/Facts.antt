@@ -4,6 +4,7 @@ use Prim.Native.Nat.{ℕ}
 use native.Mathlib.Omega.{arith}
 use mathlib.Core.List.{List}
 use lib.ListN.{length}
+use Rattle.std.specs.Prelude.{Result, Ok, Err}
 use Rattle.lists.proofs.TestLaws.{by_test}
 use Rattle.window.specs.declared.Refusal.{Refusal}
 use Rattle.window.specs.Windows.{Window, row1}
@@ -18,8 +19,7 @@ use Rattle.window.proofs.RoomLaws.{length_blank, fill_length}
 use Rattle.window.proofs.ViewLaws.{marked_in}
 use Rattle.text.specs.Load.{load_answer}
 use Rattle.symbol_table.specs.Symbols.{symbols_in}
-use Rattle.symbols.specs.declared.Block.{Block}
-use Rattle.symbols.specs.declared.Block.TheVariants.{Bad, Table}
+use Rattle.symbols.specs.declared.Table.{Table}
 use Rattle.symbols.specs.Blocks.{stretch, block_of}
 use Rattle.sheets.specs.Sheets.{sheet_plan, table_outcome, with_block, sheet_outcome}
 use Rattle.spans.specs.Spans.{span_of}
@@ -31,11 +31,11 @@ use Rattle.sheet_spans.proofs.RowLaws.{BlockOther, block_other, sheet_free}
 
 module _ (W : Window) (text sheet : List ℕ) where
   -- a sheet placed with the symbols of a table
-  placing_12 : (from to : ℕ) → Fits W.base (length W.memory) (span_behind text sheet (Table from to)) → (o : Outcome)
-      → placed W.base (blank (length W.memory)) (sheet_plan (symbols_in (stretch text from to)) sheet) ≡ o → (load_answer o).refusal.reason ≡ 12 → ⊥
-  placing_12 from to h (refused f) q e =
-      plan-never-12 (sheet_plan (symbols_in (stretch text from to)) sheet) W.base (length W.memory) f (sheet_free (symbols_in (stretch text from to)) sheet) h q e
-  placing_12 from to h (accepted s img) q e = omega (arith, e)
+  placing_12 : (t : Table) → Fits W.base (length W.memory) (span_behind text sheet (Ok t)) → (o : Outcome)
+      → placed W.base (blank (length W.memory)) (sheet_plan (symbols_in (stretch text t.from t.to)) sheet) ≡ o → (load_answer o).refusal.reason ≡ 12 → ⊥
+  placing_12 t h (refused f) q e =
+      plan-never-12 (sheet_plan (symbols_in (stretch text t.from t.to)) sheet) W.base (length W.memory) f (sheet_free (symbols_in (stretch text t.from t.to)) sheet) h q e
+  placing_12 t h (accepted s img) q e = omega (arith, e)
 
   -- a plan that is accepted has its cells in its span
   placed_cells : (p : Plan) (s : Summary) (img : Image) → placed W.base (blank (length W.memory)) p ≡ accepted s img
@@ -53,26 +53,26 @@ module _ (W : Window) (text sheet : List ℕ) where
   one q = omega (arith, q)
 
   -- a sheet behind any block
-  block_12 : (b : Block) → BlockOther b → Fits W.base (length W.memory) (span_behind text sheet b)
+  block_12 : (b : Result Table Refusal) → BlockOther b → Fits W.base (length W.memory) (span_behind text sheet b)
       → (load_answer (with_block W text sheet b)).refusal.reason ≡ 12 → ⊥
   unfolding table_outcome
-  block_12 (Bad reason n at) o h e = by_test (row1 W) (λ t. one (rw t at e)) (λ t. o.0 (rw t at e))
-  block_12 (Table from to) o h e =
-      by_test (row1 W) (λ t. one (rw t at e))
-      (λ t. placing_12 from to h (placed W.base (blank (length W.memory)) (sheet_plan (symbols_in (stretch text from to)) sheet)) refl (rw t at e))
+  block_12 (Err f) o h e = by_test (row1 W) (λ t. one (rw t at e)) (λ t. o.0 (rw t at e))
+  block_12 (Ok t) o h e =
+      by_test (row1 W) (λ r. one (rw r at e))
+      (λ r. placing_12 t h (placed W.base (blank (length W.memory)) (sheet_plan (symbols_in (stretch text t.from t.to)) sheet)) refl (rw r at e))
 
   -- a refused outcome is no accepted one
   never : {f : Refusal} {s : Summary} {img : Image} → refused f ≡ accepted s img → ⊥
   never e = let z : ◌≡◌ {A = ℕ} 0 1 = cc in omega arith
 
   -- a sheet that is accepted behind a block has its cells in the span
-  block_cells : (b : Block) (s : Summary) (img : Image) → with_block W text sheet b ≡ accepted s img
+  block_cells : (b : Result Table Refusal) (s : Summary) (img : Image) → with_block W text sheet b ≡ accepted s img
       → (length W.memory ≡ length img) × ((A B : ℕ) → In A B (cells W.base img) → Within A (span_behind text sheet b))
   unfolding table_outcome
-  block_cells (Bad reason n at) s img q = by_test (row1 W) (λ t. absurd (never (rw t at q))) (λ t. absurd (never (rw t at q)))
-  block_cells (Table from to) s img q =
-      by_test (row1 W) (λ t. absurd (never (rw t at q)))
-      (λ t. placed_cells (sheet_plan (symbols_in (stretch text from to)) sheet) s img (rw t at q))
+  block_cells (Err f) s img q = by_test (row1 W) (λ t. absurd (never (rw t at q))) (λ t. absurd (never (rw t at q)))
+  block_cells (Ok t) s img q =
+      by_test (row1 W) (λ r. absurd (never (rw r at q)))
+      (λ r. placed_cells (sheet_plan (symbols_in (stretch text t.from t.to)) sheet) s img (rw r at q))
 
 -- in a window that has the span of a sheet in it row 12 is never given
 pub never_12 : Never12

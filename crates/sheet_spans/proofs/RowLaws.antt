@@ -3,25 +3,25 @@ use mathlib.Core.Path.{◌≡◌}
 use Prim.Native.Nat.{ℕ, suc, ◌+◌}
 use native.Mathlib.Omega.{arith}
 use mathlib.Core.Bool.{not}
-use mathlib.Core.Option.{Option, none, some}
 use mathlib.Core.List.{List, [], ◌∷◌}
 use lib.Dec.{eqb}
 use lib.ListN.{length}
+use Rattle.std.specs.Prelude.{Result, Ok, Err}
 use Rattle.lists.proofs.TestLaws.{Of, either}
+use Rattle.window.specs.declared.Refusal.{Refusal}
 use Rattle.window.specs.Plans.{Plan}
 use Rattle.text.specs.Lines.{Line, lines}
 use Rattle.words.specs.Words.{is_break}
 use Rattle.symbol_table.specs.Symbols.{Symbol}
 use Rattle.symbol_lines.specs.Lines.{is_last, is_title, row22, symbol_count}
-use Rattle.symbols.specs.declared.Block.{Block}
-use Rattle.symbols.specs.declared.Block.TheVariants.{Bad, Table}
+use Rattle.symbols.specs.declared.Table.{Table}
 use Rattle.symbols.specs.Blocks.{row23, row24, line_row, walked, opened, block_of}
-use Rattle.operands.specs.declared.Worth.{Worth}
-use Rattle.operands.specs.Trees.{Tree}
-use Rattle.operands.specs.Reading.{expression}
-use Rattle.operands.specs.Values.{known, value, ranged, verdict, judged, worth_of}
+use Rattle.operands.specs.declared.ExpressionError.{ExpressionError}
+use Rattle.operands.specs.declared.ExpressionError.TheVariants.{Malformed, NoValue}
+use Rattle.operands.specs.declared.ValueError.TheVariants.{UnknownName, OutOfRange}
+use Rattle.operands.specs.Values.{worth_of, row_of}
 use Rattle.sheet_fields.specs.Fields.{Field, fields, is_field}
-use Rattle.sheets.specs.Sheets.{pair_plan, planned, sheet_plan}
+use Rattle.sheets.specs.Sheets.{worth_plan, pair_plan, planned, sheet_plan}
 use Rattle.spans.specs.Facts.{Windowless}
 
 -- a row that is neither 12 nor 13
@@ -31,9 +31,9 @@ Other row = (row ≡ 12 → ⊥) × (row ≡ 13 → ⊥)
 -- ---- blocks
 
 -- a block is refused by another row
-abbrev pub BlockOther : Block → Type 0
-BlockOther (Bad reason n at) = Other reason
-BlockOther (Table from to) = Unit {0}
+abbrev pub BlockOther : Result Table Refusal → Type 0
+BlockOther (Err f) = Other f.reason
+BlockOther (Ok t) = Unit {0}
 
 line_other : (text : List ℕ) (from n : ℕ) (l : Line) → Of Other (line_row text from n l)
 unfolding line_row
@@ -64,35 +64,27 @@ block_other text = (opened_other text (lines is_break 0 text)).got
 -- ---- sheets
 
 -- an expression is refused by another row
-abbrev WorthOther : Worth → Type 0
-WorthOther w = Other w.row
-
-ranged_other : (v : Option ℕ) → Of WorthOther (ranged v)
-ranged_other none = record { got = (λ q. omega (arith, q), λ q. omega (arith, q)) }
-ranged_other (some v) = record { got = (λ q. omega (arith, q), λ q. omega (arith, q)) }
-
-verdict_other : (S : List Symbol) (t : Tree) → Of WorthOther (verdict S t)
-unfolding verdict
-verdict_other S t = either (known S t) (ranged_other (value S t)) (record { got = (λ q. omega (arith, q), λ q. omega (arith, q)) })
-
-judged_other : (S : List Symbol) (t : Option Tree) → WorthOther (judged S t)
-judged_other S none = (λ q. omega (arith, q), λ q. omega (arith, q))
-judged_other S (some t) = (verdict_other S t).got
+row_other : (e : ExpressionError) → Other (row_of e)
+row_other Malformed = (λ q. omega (arith, q), λ q. omega (arith, q))
+row_other (NoValue UnknownName) = (λ q. omega (arith, q), λ q. omega (arith, q))
+row_other (NoValue OutOfRange) = (λ q. omega (arith, q), λ q. omega (arith, q))
 
 -- a pair is, where the rest is
-pair_free : (k : ℕ) (f : Field) (w : Worth) (g : Field) (rest : Plan) → WorthOther w → Windowless rest → Of Windowless (pair_plan k f w g rest)
+worth_free : (k : ℕ) (f : Field) (w : Result ℕ ExpressionError) (g : Field) (rest : Plan) → Windowless rest → Of Windowless (worth_plan k f w g rest)
+worth_free k f (Err e) g rest r = record { got = row_other e }
+worth_free k f (Ok a) g rest r =
+    either (not (is_field 2 g)) (record { got = (λ q. omega (arith, q), λ q. omega (arith, q)) }) (record { got = r })
+
+pair_free : (k : ℕ) (f : Field) (w : Result ℕ ExpressionError) (g : Field) (rest : Plan) → Windowless rest → Of Windowless (pair_plan k f w g rest)
 unfolding pair_plan
-pair_free k f w g rest h r =
-    either (not (is_field 1 f)) (record { got = (λ q. omega (arith, q), λ q. omega (arith, q)) })
-    (either (not (eqb w.row 0)) (record { got = h })
-    (either (not (is_field 2 g)) (record { got = (λ q. omega (arith, q), λ q. omega (arith, q)) }) (record { got = r })))
+pair_free k f w g rest r =
+    either (not (is_field 1 f)) (record { got = (λ q. omega (arith, q), λ q. omega (arith, q)) }) (worth_free k f w g rest r)
 
 fields_free : (S : List Symbol) (k n c : ℕ) (fs : List Field) → Windowless (planned S k n c fs)
-unfolding worth_of
 fields_free S k n c [] = tt
 fields_free S k n c (f ∷ []) = (λ q. omega (arith, q), λ q. omega (arith, q))
 fields_free S k n c (f ∷ g ∷ fs) =
-    (pair_free k f (worth_of S f.bytes) g (planned S (suc (suc k)) (suc n) (c + length g.bytes) fs) (judged_other S (expression f.bytes))
+    (pair_free k f (worth_of S f.bytes) g (planned S (suc (suc k)) (suc n) (c + length g.bytes) fs)
     (fields_free S (suc (suc k)) (suc n) (c + length g.bytes) fs)).got
 
 -- the plan of any sheet stops by none of the window's rows

@@ -9,20 +9,16 @@ ghost use Rattle.text.specs.Load.{memory_after};
 ghost use Rattle.symbol_table.specs.Symbols.{symbols_in};
 ghost use Rattle.sheets.specs.Sheets.{sheet_plan};
 
-use sheet_fields::Pair;
-
 // Stores bytes that row 12 lets pass: the cells from the address on, in the middle of memory, are lent.
 fn store_bytes(base: usize, memory: &mut [u8], address: usize, bytes: &[u8])
     requires { row12 base (length memory.old) address (length bytes.now) ≡ false }
     ensures { memory.new ≡ over memory.old (address - base) bytes.now }
 {
-    let count = bytes.len();
-    if count == 0 {
+    if bytes.is_empty() {
         return;
     }
     let from = address - base;
-    let to = from + count;
-    memory[from..to].copy_from_slice(bytes);
+    memory[from..from + bytes.len()].copy_from_slice(bytes);
 }
 
 // Stores the bytes of every pair of a sheet that was accepted.
@@ -30,26 +26,17 @@ pub fn store_sheet(table: &[u8], sheet: &[u8], base: usize, memory: &mut [u8])
     requires { Accepts (placed base (blank (length memory.old)) (sheet_plan (symbols_in table.now) sheet.now)) }
     ensures { memory.new ≡ memory_after memory.old (placed base (blank (length memory.old)) (sheet_plan (symbols_in table.now) sheet.now)) }
 {
-    let mut at: usize = 0;
-    loop {
-        let pair = sheet_fields::pair_at(table, sheet, at);
-        match pair {
-            Pair::End => return,
-            Pair::Bad {
-                reason: _,
-                which: _,
-                place: _,
-            } => return,
-            Pair::Store {
-                place: _,
-                address,
-                from,
-                to,
-            } => {
-                store_bytes(base, memory, address as usize, &sheet[from..to]);
-                at = to;
-                continue;
-            }
-        }
+    let mut at = 0;
+    while let Some(pair) = sheet_fields::pair_at(table, sheet, at) {
+        let Ok(store) = pair else {
+            return;
+        };
+        store_bytes(
+            base,
+            memory,
+            store.address as usize,
+            &sheet[store.from..store.to],
+        );
+        at = store.to;
     }
 }

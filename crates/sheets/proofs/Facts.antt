@@ -4,8 +4,9 @@ use mathlib.Core.Logic.{◌↔◌}
 use Prim.Native.Nat.{ℕ, suc, ◌+◌}
 use native.Mathlib.Omega.{arith}
 use mathlib.Core.List.{List, [], ◌∷◌}
-use lib.Dec.{eqb}
 use lib.ListN.{length}
+use Rattle.std.specs.Prelude.{Result, Ok, Err}
+use Rattle.std.specs.Result.{result_unwrap_or}
 use Rattle.lists.proofs.TestLaws.{by_test}
 use Rattle.window.specs.declared.Refusal.{Refusal}
 use Rattle.window.specs.Windows.{Window, row1}
@@ -20,10 +21,9 @@ use Rattle.window.proofs.FillLaws.{left_by}
 use Rattle.window.proofs.RoomLaws.{length_blank, fill_length}
 use Rattle.window.proofs.ViewLaws.{marked_in, in_marked}
 use Rattle.symbol_table.specs.Symbols.{Symbol}
-use Rattle.operands.specs.declared.Worth.{Worth}
+use Rattle.operands.specs.declared.ExpressionError.{ExpressionError}
 use Rattle.operands.specs.Values.{worth_of}
-use Rattle.symbols.specs.declared.Block.{Block}
-use Rattle.symbols.specs.declared.Block.TheVariants.{Bad, Table}
+use Rattle.symbols.specs.declared.Table.{Table}
 use Rattle.symbols.specs.Blocks.{block_of}
 use Rattle.sheet_fields.specs.Fields.{Field, fields, is_field}
 use Rattle.sheets.specs.Sheets.{summary, pair_plan, planned, sheet_plan, table_outcome, with_block, sheet_outcome}
@@ -43,18 +43,18 @@ no_refusal : (f : Refusal) (s : Summary) (img : Image) → refused f ≡ accepte
 no_refusal f s img e = let z : ◌≡◌ {A = ℕ} 0 1 = cc in omega arith
 
 -- a pair that is not refused stores what it says
-pair_said : (k : ℕ) (f : Field) (w : Worth) (g : Field) (rest : Plan) (s : Summary) (rs : List Run) (sum : Summary)
+pair_said : (k : ℕ) (f : Field) (w : Result ℕ ExpressionError) (g : Field) (rest : Plan) (s : Summary) (rs : List Run) (sum : Summary)
     → final (pair_plan k f w g rest) ≡ done s → (final rest ≡ done s → Ends rest s rs sum)
-    → Ends (pair_plan k f w g rest) s (record { addr = w.value; bytes = g.bytes } ∷ rs) sum
+    → Ends (pair_plan k f w g rest) s (record { addr = result_unwrap_or w 0; bytes = g.bytes } ∷ rs) sum
 unfolding pair_plan
-pair_said k f w g rest s rs sum q h =
+pair_said k f (Err e) g rest s rs sum q h =
+    by_test (is_field 1 f) (λ a. absurd (no_stop _ s (rw a at q))) (λ a. absurd (no_stop _ s (rw a at q)))
+pair_said k f (Ok v) g rest s rs sum q h =
     by_test (is_field 1 f)
-    (λ a. by_test (eqb w.row 0)
-    (λ b. by_test (is_field 2 g)
-    (λ c. let e : Ends rest s rs sum = h (rw (a, b, c) at q) in
-    record { runs = rw (a, b, c) (ap {B = List Run} (λ (r : List Run). record { addr = w.value; bytes = g.bytes } ∷ r) e.runs); sums = e.sums })
-    (λ c. absurd (no_stop _ s (rw (a, b, c) at q))))
-    (λ b. absurd (no_stop _ s (rw (a, b) at q))))
+    (λ a. by_test (is_field 2 g)
+    (λ c. let e : Ends rest s rs sum = h (rw (a, c) at q) in
+    record { runs = rw (a, c) (ap {B = List Run} (λ (r : List Run). record { addr = v; bytes = g.bytes } ∷ r) e.runs); sums = e.sums })
+    (λ c. absurd (no_stop _ s (rw (a, c) at q))))
     (λ a. absurd (no_stop _ s (rw a at q)))
 
 -- equal counts give equal summaries
@@ -75,12 +75,12 @@ fields_said S k n c (f ∷ g ∷ fs) s q =
 
 module _ (W : Window) (text sheet : List ℕ) (s : Summary) (img : Image) where
   -- an accepted sheet stands behind a good block, and its plan is placed
-  behind : (b : Block) → with_block W text sheet b ≡ accepted s img
+  behind : (b : Result Table Refusal) → with_block W text sheet b ≡ accepted s img
       → placed W.base (blank (length W.memory)) (sheet_plan (symbols_of text b) sheet) ≡ accepted s img
   unfolding table_outcome
-  behind (Bad r n at) q =
+  behind (Err f) q =
       by_test (row1 W) (λ t. absurd (no_refusal _ s img (rw t at q))) (λ t. absurd (no_refusal _ s img (rw t at q)))
-  behind (Table f t) q = by_test (row1 W) (λ t. absurd (no_refusal _ s img (rw t at q))) (λ t. rw t at q)
+  behind (Ok t) q = by_test (row1 W) (λ t. absurd (no_refusal _ s img (rw t at q))) (λ t. rw t at q)
 
   -- what such a plan leaves
   left : (S : List Symbol) → placed W.base (blank (length W.memory)) (sheet_plan S sheet) ≡ accepted s img

@@ -8,18 +8,19 @@ use mathlib.Core.Bool.{Bool, true, false, cond, ◌&&◌}
 use mathlib.Core.List.{List, [], ◌∷◌}
 use lib.Dec.{leb, eqb}
 use lib.ListN.{length, get_or, take, drop}
-use Rattle.lists.proofs.TestLaws.{by_test}
+use Rattle.std.specs.Prelude.{Option, Some, None, Result, Ok, Err}
+use Rattle.lists.proofs.TestLaws.{by_test, and_both}
 use Rattle.window.specs.Plans.{refusal, Plan}
 use Rattle.window.specs.Plans.Plan.{store, stop, done}
 use Rattle.symbol_table.specs.Symbols.{Symbol}
-use Rattle.operands.specs.declared.Worth.{Worth}
-use Rattle.operands.specs.Values.{worth_of}
-use Rattle.sheet_fields.specs.declared.Pair.{Pair}
-use Rattle.sheet_fields.specs.declared.Pair.TheVariants.{End, Bad, Store}
+use Rattle.operands.specs.declared.ExpressionError.{ExpressionError}
+use Rattle.operands.specs.Values.{worth_of, row_of}
+use Rattle.sheet_fields.specs.declared.Fault.{Fault}
+use Rattle.sheet_fields.specs.declared.Store.{Store}
 use Rattle.sheet_fields.specs.Fields.{length_at, end_at, field_at, fields_from, is_field}
-use Rattle.sheets.specs.Sheets.{summary, pair_plan, planned}
-use Rattle.sheet_fields.specs.Pairs.{second_at, first_at, pair_at}
-use Rattle.sheet_fields.proofs.StepLaws.{end_is, pair_end, pair_lone, pair_tag, pair_text, pair_second}
+use Rattle.sheets.specs.Sheets.{summary, worth_plan, pair_plan, planned}
+use Rattle.sheet_fields.specs.Pairs.{second_at, first_at, read_at, pair_at}
+use Rattle.sheet_fields.proofs.StepLaws.{end_is, by_worth, pair_end, pair_lone, pair_tag, pair_text}
 
 -- the bytes from f to t
 abbrev pub bytes_at : List ℕ → ℕ → ℕ → List ℕ
@@ -63,70 +64,74 @@ module _ (sheet : List ℕ) (at : ℕ) where
 
 module _ (S : List Symbol) (sheet : List ℕ) (at : ℕ) where
   -- a bad field is the first or the second; the bytes of a pair stand in the sheet, behind the two heads
-  abbrev pub Within : Pair → Type 0
-  Within End = Unit {0}
-  Within (Bad r w p) = w ≤ 2
-  Within (Store p a f t) = (at + 6 ≤ f) × (f ≤ t) × (t ≤ length sheet)
+  abbrev WithinPair : Result Store Fault → Type 0
+  WithinPair (Err b) = b.which ≤ 2
+  WithinPair (Ok p) = (at + 6 ≤ p.from) × (p.from ≤ p.to) × (p.to ≤ length sheet)
 
-  within_if : (b : Bool) (x y : Pair) → (b ≡ true → Within x) → (b ≡ false → Within y) → Within (cond b x y)
+  abbrev pub Within : Option (Result Store Fault) → Type 0
+  Within None = Unit {0}
+  Within (Some x) = WithinPair x
+
+  within_if : (b : Bool) (x y : Result Store Fault) → (b ≡ true → WithinPair x) → (b ≡ false → WithinPair y) → WithinPair (cond b x y)
   within_if true x y h l = h refl
   within_if false x y h l = l refl
 
-  within_second : (a : ℕ) → Within (second_at sheet (end_at sheet at) a)
+  within_second : (a : ℕ) → WithinPair (second_at sheet (end_at sheet at) a)
   unfolding second_at is_field field_at
   within_second a =
-      within_if (eqb (get_or sheet (end_at sheet at) 0) 2 && leb (end_at sheet (end_at sheet at)) (length sheet)) (Store (end_at sheet at) a (end_at sheet at + 3) (end_at sheet (end_at sheet at))) (Bad 25 2 (end_at sheet at))
-      (λ e. (omega (arith, end_is sheet at), omega (arith, end_is sheet (end_at sheet at)), leb-true _ _ (right (eqb (get_or sheet (end_at sheet at) 0) 2) (leb (end_at sheet (end_at sheet at)) (length sheet)) e)))
+      let mid : ℕ = end_at sheet at in
+      within_if (eqb (get_or sheet mid 0) 2 && leb (end_at sheet mid) (length sheet)) _ _
+      (λ e. (omega (arith, end_is sheet at), omega (arith, end_is sheet mid), leb-true _ _ (and_both (eqb (get_or sheet mid 0) 2) (leb (end_at sheet mid) (length sheet)) e).1))
       (λ e. omega arith)
-    where
-      right : (x y : Bool) → (x && y) ≡ true → y ≡ true
-      right true y e = e
-      right false y e = absurd (let z : ◌≡◌ {A = ℕ} 0 1 = cc in omega arith)
+
+  within_text : (w : Result ℕ ExpressionError) → WithinPair (first_at sheet at w)
+  unfolding first_at
+  within_text (Ok a) = within_second a
+  within_text (Err e) = omega arith
+
+  within_read : WithinPair (read_at S sheet at)
+  unfolding read_at
+  within_read =
+      within_if (leb (length sheet) (end_at sheet at)) _ _ (λ f. omega arith)
+      (λ f. within_if (eqb (get_or sheet at 0) 1) _ _ (λ g. within_text (worth_of S (take (length_at sheet at) (drop (at + 3) sheet)))) (λ g. omega arith))
 
   pub within : Within (pair_at S sheet at)
-  unfolding pair_at first_at
-  within =
-      within_if (leb (length sheet) at) End _ (λ e. tt)
-      (λ e. within_if (leb (length sheet) (end_at sheet at)) (Bad 25 1 at) _ (λ f. omega arith)
-      (λ f. within_if (eqb (get_or sheet at 0) 1) _ (Bad 25 1 at)
-      (λ g. within_if (eqb (worth_of S (take (length_at sheet at) (drop (at + 3) sheet))).row 0) _ (Bad (worth_of S (take (length_at sheet at) (drop (at + 3) sheet))).row 1 at) (λ h. within_second _) (λ h. omega arith)) (λ g. omega arith)))
+  unfolding pair_at
+  within = by_test (leb (length sheet) at) (λ e. rw e tt) (λ e. rw e within_read)
 
   -- ---- the plan by the pair
 
   module _ (k n c fuel : ℕ) where
     -- what a pair leads to
-    abbrev pub by_pair : Pair → Plan
-    by_pair End = done (summary n c)
-    by_pair (Bad r w p) = stop (refusal r (k + w) p)
-    by_pair (Store p a f t) =
-        store (k + 2) p a (bytes_at sheet f t) (planned S (k + 2) (n + 1) (c + length (bytes_at sheet f t)) (fields_from (fuel - 1 - 1) sheet t))
+    abbrev pub by_pair : Option (Result Store Fault) → Plan
+    by_pair None = done (summary n c)
+    by_pair (Some (Err b)) = stop (refusal (row_of b.error) (k + b.which) b.place)
+    by_pair (Some (Ok p)) =
+        let bytes = bytes_at sheet p.from p.to in
+        store (k + 2) p.place p.address bytes (planned S (k + 2) (n + 1) (c + length bytes) (fields_from (fuel - 1 - 1) sheet p.to))
 
     turned_two : (l : at < length sheet) (h : end_at sheet at < length sheet)
         → planned S k n c (field_at sheet at ∷ field_at sheet (end_at sheet at) ∷ fields_from (fuel - 1 - 1) sheet (end_at sheet (end_at sheet at))) ≡ by_pair (pair_at S sheet at)
     turned_two l h =
-        by_test (eqb (get_or sheet at 0) 1) (λ e. texts (eqb-true _ _ e)) (λ e. unfold pair_plan in rw (no_first sheet at (eqb-false _ _ e), sym (pair_tag S sheet at l h (eqb-false _ _ e)), place_is sheet at, add-one k))
+        by_test (eqb (get_or sheet at 0) 1)
+        (λ e. unfold pair_plan in rw (is_first sheet at (eqb-true _ _ e) (omega arith), bytes_are sheet at, sym (pair_text S sheet at l h (eqb-true _ _ e))) (by_text (worth_of S (take (length_at sheet at) (drop (at + 3) sheet)))))
+        (λ e. unfold pair_plan in rw (no_first sheet at (eqb-false _ _ e), sym (pair_tag S sheet at l h (eqb-false _ _ e)), place_is sheet at, add-one k))
       where
         mid : ℕ
         mid = end_at sheet at
 
-        w : Worth
-        w = worth_of S (take (length_at sheet at) (drop (at + 3) sheet))
-
         k2 : k + 2 ≡ suc (suc k)
         k2 = omega arith
 
-        second : get_or sheet at 0 ≡ 1 → eqb w.row 0 ≡ true
-            → planned S k n c (field_at sheet at ∷ field_at sheet (end_at sheet at) ∷ fields_from (fuel - 1 - 1) sheet (end_at sheet (end_at sheet at))) ≡ by_pair (pair_at S sheet at)
-        second e z =
-            by_test (is_field 2 (field_at sheet (end_at sheet at)))
-            (λ g. unfold pair_plan second_at in rw (is_first sheet at e (omega arith), bytes_are sheet at, z, g, sym (pair_second S sheet at l h e w refl (eqb-true _ _ z)), g, place_is sheet (end_at sheet at), bytes_from sheet (end_at sheet at), k2, add-one n))
-            (λ g. unfold pair_plan second_at in rw (is_first sheet at e (omega arith), bytes_are sheet at, z, g, sym (pair_second S sheet at l h e w refl (eqb-true _ _ z)), g, place_is sheet (end_at sheet at), k2))
+        then : Plan
+        then = planned S (suc (suc k)) (suc n) (c + length (field_at sheet mid).bytes) (fields_from (fuel - 1 - 1) sheet (end_at sheet mid))
 
-        texts : get_or sheet at 0 ≡ 1
-            → planned S k n c (field_at sheet at ∷ field_at sheet (end_at sheet at) ∷ fields_from (fuel - 1 - 1) sheet (end_at sheet (end_at sheet at))) ≡ by_pair (pair_at S sheet at)
-        texts e =
-            by_test (eqb w.row 0) (λ z. second e z)
-            (λ z. unfold pair_plan in rw (is_first sheet at e (omega arith), bytes_are sheet at, z, sym (pair_text S sheet at l h e w refl (eqb-false _ _ z)), place_is sheet at, add-one k))
+        by_text : (w : Result ℕ ExpressionError) → worth_plan k (field_at sheet at) w (field_at sheet mid) then ≡ by_pair (Some (by_worth sheet at mid w))
+        by_text (Err e) = rw (place_is sheet at, add-one k)
+        by_text (Ok a) =
+            by_test (is_field 2 (field_at sheet mid))
+            (λ g. unfold second_at in rw (g, place_is sheet mid, bytes_from sheet mid, k2, add-one n))
+            (λ g. unfold second_at in rw (g, place_is sheet mid, k2))
 
     -- the plan of the fields that are left is that of their first pair, and the rest
     pub turned : length sheet - at ≤ fuel → planned S k n c (fields_from fuel sheet at) ≡ by_pair (pair_at S sheet at)

@@ -1,5 +1,5 @@
 -- Worked examples of patch sheets, as one table under one statement: a window of eight cells from FFC on.
-use Rattle.std.specs.Prelude.{Bool, true, ◌&&◌, List, [], ◌∷◌, ◌++◌, ℕ, ◌+◌, ◌/◌, ◌%◌, T, length, replicate}
+use Rattle.std.specs.Prelude.{Bool, true, ◌&&◌, List, [], ◌∷◌, ◌++◌, ℕ, ◌/◌, ◌%◌, T, length, replicate}
 use Prim.Native.String.{String}
 use Rattle.hex_digits.specs.Digits as digits
 use Rattle.window.specs.Windows.{Window, window_of, row1}

@@ -1,7 +1,9 @@
 -- The theorem about sheets: "the sheet becomes a patch image", which is what its pairs say (Req 13). proofs/Facts.antt proves it.
-use Rattle.std.specs.Prelude.{◌≡◌, ◌↔◌, ℕ, List, [], ◌∷◌, length}
-use Rattle.window.specs.declared.Entry.TheVariants.{Absent}
+use Rattle.std.specs.Prelude.{◌≡◌, ◌↔◌, ℕ, List, [], ◌∷◌, length, Result, Ok, Err}
+use Rattle.std.specs.Result.{result_unwrap_or}
+use Rattle.std.specs.Prelude.{None}
 use Rattle.window.specs.declared.Loaded.{Loaded}
+use Rattle.window.specs.declared.Refusal.{Refusal}
 use Rattle.window.specs.Windows.{Window, window_of, Marked}
 use Rattle.window.specs.Images.{Image}
 use Rattle.window.specs.Cells.{Run, Addressed, total}
@@ -10,23 +12,23 @@ use Rattle.window.specs.Plans.Outcome.{accepted}
 use Rattle.text.specs.Load.{load_answer, memory_after, marks_after}
 use Rattle.text.specs.Terms.{header_bytes}
 use Rattle.symbol_table.specs.Symbols.{Symbol, symbols_in}
-use Rattle.symbols.specs.declared.Block.{Block}
-use Rattle.symbols.specs.declared.Block.TheVariants.{Bad, Table}
+use Rattle.symbols.specs.declared.Table.{Table}
 use Rattle.symbols.specs.Blocks.{stretch, block_of}
 use Rattle.operands.specs.Values.{worth_of}
 use Rattle.sheet_fields.specs.Fields.{Field, fields}
 use Rattle.sheets.specs.Sheets.{sheet_outcome}
 
--- what pairs of fields say: the value of each address, and the bytes for it; of an accepted sheet every field has its pair
+-- what pairs of fields say: the value of each address, and the bytes for it; of an accepted sheet every field has its pair, and every
+-- address a value
 abbrev pub said : List Symbol → List Field → List Run
 said S [] = []
 said S (f ∷ []) = []
-said S (f ∷ g ∷ fs) = record { addr = (worth_of S f.bytes).value; bytes = g.bytes } ∷ said S fs
+said S (f ∷ g ∷ fs) = record { addr = result_unwrap_or (worth_of S f.bytes) 0; bytes = g.bytes } ∷ said S fs
 
 -- the symbols of a block
-abbrev pub symbols_of : List ℕ → Block → List Symbol
-symbols_of text (Bad reason n at) = []
-symbols_of text (Table from to) = symbols_in (stretch text from to)
+abbrev pub symbols_of : List ℕ → Result Table Refusal → List Symbol
+symbols_of text (Err f) = []
+symbols_of text (Ok t) = symbols_in (stretch text t.from t.to)
 
 -- what a sheet says with the symbols of a text
 abbrev pub sheet_data : List ℕ → List ℕ → List Run
@@ -44,7 +46,7 @@ sheet_after W text sheet = window_of W.base (memory_after W.memory (sheet_outcom
 pub record SheetLoads (W : Window) (text sheet : List ℕ) : Type 0 where
   pub cells : (A B : ℕ) → Marked (sheet_after W text sheet) A B ↔ Addressed A B (sheet_data text sheet)
   pub header : header_bytes (sheet_loaded W text sheet) ≡ []
-  pub entry : (sheet_loaded W text sheet).entry ≡ Absent
+  pub entry : (sheet_loaded W text sheet).entry ≡ None
   pub records : (sheet_loaded W text sheet).records ≡ length (sheet_data text sheet)
   pub counted : (sheet_loaded W text sheet).cells ≡ total (sheet_data text sheet)
 

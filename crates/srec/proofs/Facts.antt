@@ -8,8 +8,8 @@ use mathlib.Core.Logic.{⊎_elim, ◌⊎◌, inl, inr}
 use lib.Dec.{T, eqb, ltb}
 use lib.ListN.{length}
 use borrow.Author.Tests.{eqb-true, eq-eqb, ne_eqb, le-leb, lt-leb, le-ltb, lt-ltb, ltb-true, ltb-false, not-false}
-use Rattle.window.specs.declared.Entry.{Entry}
-use Rattle.window.specs.declared.Entry.TheVariants.{Absent, Present}
+use Rattle.window.specs.Entries.{Entry}
+use Rattle.std.specs.Prelude.{None, Some}
 use Rattle.window.specs.Images.{Image, image}
 use Rattle.window.specs.Cells.{Run, shown}
 use Rattle.window.specs.Plans.{Summary}
@@ -151,9 +151,9 @@ row_3_from_515 = record { pass = λ chars h. le-ltb 514 (length chars) h; refuse
 -- ---- the entry
 
 -- an entry that keeps to the limits of S-records is there
-present : (e : Entry) → EntryOk limits e → (a : ℕ) × (e ≡ Present a)
-present Absent k = absurd (let q : false ≡ true = k.present in let z : ◌≡◌ {A = ℕ} 0 1 = cc in omega arith)
-present (Present a) k = (a, refl)
+present : (e : Entry) → EntryOk limits e → (a : ℕ) × (e ≡ Some a)
+present None k = absurd (let q : false ≡ true = k.present in let z : ◌≡◌ {A = ℕ} 0 1 = cc in omega arith)
+present (Some a) k = (a, refl)
 
 -- a row that a load may be refused by is not 9, and has a byte only if it is 7
 not_9 : (n w : ℕ) → T (refuses n w) → n ≡ 9 → ⊥

@@ -6,8 +6,8 @@ use mathlib.Core.Bool.{true, false, not}
 use mathlib.Core.List.{List}
 use lib.ListN.{length}
 use borrow.Author.Tests.{le-ltb}
-use Rattle.window.specs.declared.Entry.{Entry}
-use Rattle.window.specs.declared.Entry.TheVariants.{Absent, Present}
+use Rattle.window.specs.Entries.{Entry}
+use Rattle.std.specs.Prelude.{None, Some}
 use Rattle.window.specs.Windows.{Window, Allowed}
 use Rattle.window.specs.Cells.{Cell, shown}
 use Rattle.window.specs.Plans.{is_present, address_of}
@@ -46,9 +46,9 @@ writable cs h e m =
     }
 
 -- an entry that is present is the one at its address
-there : (e : Entry) → is_present e ≡ true → Present (address_of e) ≡ e
-there Absent q = absurd (let z : ◌≡◌ {A = ℕ} 0 1 = cc in omega arith)
-there (Present a) q = refl
+there : (e : Entry) → is_present e ≡ true → Some (address_of e) ≡ e
+there None q = absurd (let z : ◌≡◌ {A = ℕ} 0 1 = cc in omega arith)
+there (Some a) q = refl
 
 -- the canonical text of what is storable asks for the runs of its cells, and ends with its header and entry
 canonical_gives : (cs : List Cell) (h : List ℕ) (e : Entry) → Storable limits cs h e

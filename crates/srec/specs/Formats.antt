@@ -1,6 +1,6 @@
 -- S-records as a format.
 use Rattle.std.specs.Prelude.{ℕ, Bool, not, List, [], ◌∷◌}
-use Rattle.window.specs.declared.Entry.{Entry}
+use Rattle.window.specs.Entries.{Entry}
 use Rattle.window.specs.Windows.{Window}
 use Rattle.window.specs.Headers.{row15}
 use Rattle.window.specs.Plans.{is_present}

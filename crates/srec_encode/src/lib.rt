@@ -3,10 +3,11 @@
 
 ghost use Rattle.std.specs.Prelude.{◌≡◌, [], ◌∷◌, ◌++◌, ◌+◌, ◌*◌, ◌≤◌, length};
 ghost use Rattle.hex_digits.specs.Digits.{digits_of};
-ghost use Rattle.hex_digits.specs.Tables.{pair_table};
 ghost use Rattle.srec.specs.Reading.{checksum};
 ghost use Rattle.lists.specs.Lists.{over};
 ghost use Rattle.srec_encode.specs.Records.{line_with, line_of};
+
+use hex_write::PairTable;
 
 // The checksum of a count, address bytes and data bytes.
 fn check_byte(count: u8, address: &[u8], bytes: &[u8]) -> u8
@@ -86,8 +87,8 @@ pub fn put_line(
 }
 
 // `put_fields` for sixteen data bytes, by a table of digits and a block. It has one caller, so that the compiler knows all lengths.
-fn put_row_fields(table: &[u16; 256], out: &mut [u8], kind: u8, address: &[u8], row: &[u8])
-    requires table_value { (table.now ≡ pair_table) × (length address.now ≤ 4) × (length row.now ≡ 16) }
+fn put_row_fields(table: &PairTable, out: &mut [u8], kind: u8, address: &[u8], row: &[u8])
+    requires lengths { (length address.now ≤ 4) × (length row.now ≡ 16) }
     requires out_len { length out.old ≡ 7 + 2 * length address.now + 2 * length row.now }
     ensures { out.new ≡ line_with kind address.now row.now }
 {
@@ -98,14 +99,14 @@ fn put_row_fields(table: &[u16; 256], out: &mut [u8], kind: u8, address: &[u8], 
     let middle = 4 + 2 * width;
     let end = middle + 2 * n;
     put_head(out, kind, count);
-    hex_write::put_few(table, out, 4, address);
+    table.put_few(out, 4, address);
     hex_write::put_block(out, middle, row);
     put_tail(out, end, check);
 }
 
 // `put_line` for sixteen data bytes.
 pub fn put_row(
-    table: &[u16; 256],
+    table: &PairTable,
     out: &mut [u8],
     at: usize,
     kind: u8,
@@ -113,7 +114,7 @@ pub fn put_row(
     address: u32,
     bytes: &[u8],
 ) -> usize
-    requires table_value { (table.now ≡ pair_table) × (width ≤ 4) × (length bytes.now ≡ 16) }
+    requires lengths { (width ≤ 4) × (length bytes.now ≡ 16) }
     requires bytes_in_bounds { at + (7 + 2 * width + 2 * length bytes.now) ≤ length out.old }
     ensures value { result ≡ at + (7 + 2 * width + 2 * length bytes.now) }
     ensures out_after { out.new ≡ over out.old at (line_of kind width address bytes.now) }

@@ -18,7 +18,9 @@ use Rattle.text.specs.Scan.{Fault}
 use Rattle.srec.specs.Reading.{Read, row3, row4, row5, row6, row7, address_in, data_in, read}
 use Rattle.srec.specs.Reading.Read.{good, bad}
 use Rattle.srec.proofs.LimitLaws.{ReadOk, read_ok}
-use Rattle.srec_fields.specs.declared.Record.TheVariants.{Good, Bad}
+use Rattle.std.specs.Prelude.{Result, Ok, Err}
+use Rattle.text.specs.declared.Fault.{Fault as TextFault}
+use Rattle.srec_fields.specs.declared.Record.{Record}
 use Rattle.srec_fields.specs.Records.{as_record}
 use Rattle.srec_fields.proofs.KindLaws.{Known, known_kind, type_of_kind, row_6_inv}
 
@@ -31,6 +33,20 @@ pub record Fields (chars : List ℕ) (k : Kind) (a : ℕ) (ds : List ℕ) : Type
   pub long : length chars ≡ 4 + 2 * (width k + 1 + length ds)
   pub address_is : a ≡ number (bytes (take (2 * width k) (drop 4 chars)))
   pub data_is : ds ≡ bytes (take (2 * length ds) (drop (4 + 2 * width k) chars))
+
+-- the answer that a record says this
+abbrev pub says : ℕ → ℕ → ℕ → Result Record TextFault
+says kind a n = Ok (record { kind = kind; address = a; count = n })
+
+-- the answer that a row refuses it at a place, and which checksum would have been right
+abbrev pub refused : ℕ → ℕ → ℕ → Result Record TextFault
+refused row place want = Err (record { row = row; place = place; want = want })
+
+-- equal records say the same
+record_same : (kind a n kind' a' n' : ℕ) → says kind a n ≡ says kind' a' n' → (kind ≡ kind') × (a ≡ a') × (n ≡ n')
+record_same kind a n kind' a' n' q =
+    let r : ◌≡◌ {A = Record} (record { kind = kind; address = a; count = n }) (record { kind = kind'; address = a'; count = n' }) = cc in
+    (ap (λ (x : Record). x.kind) r, ap (λ (x : Record). x.address) r, ap (λ (x : Record). x.count) r)
 
 -- a type that is in the table
 known_some : (o : Option Kind) → is_known o ≡ true → o ≡ some (known o)
@@ -145,17 +161,15 @@ pub record Got (chars : List ℕ) (kind a n : ℕ) : Type 0 where
   pub small : (a < 2 ^ 32) × (n ≤ 252) × (2 ≤ width k) × (width k ≤ 4)
 
 -- a good answer of `read_record` says what was read
-pub got : (chars : List ℕ) (place kind a n : ℕ) → Good kind a n ≡ as_record place (read chars) → Got chars kind a n
+pub got : (chars : List ℕ) (place kind a n : ℕ) → says kind a n ≡ as_record place (read chars) → Got chars kind a n
 got chars place kind a n q = go (read chars) refl
   where
     go : (r : Read) → read chars ≡ r → Got chars kind a n
-    go (bad f) e = absurd (let p : Good kind a n ≡ Bad f.reason (place + f.offset) f.want = q ∙ ap (as_record place) e in
+    go (bad f) e = absurd (let p : says kind a n ≡ refused f.reason (place + f.offset) f.want = q ∙ ap (as_record place) e in
         let z : ◌≡◌ {A = ℕ} 0 1 = cc in omega arith)
     go (good k b ds) e =
-        let p : Good kind a n ≡ Good (type_of k) b (length ds) = q ∙ ap (as_record place) e in
-        let kind-is : kind ≡ type_of k = cc in
-        let a-is : b ≡ a = cc in
-        let n-is : length ds ≡ n = cc in
+        let p = record_same kind a n (type_of k) b (length ds) (q ∙ ap (as_record place) e) in
+        let a-is : b ≡ a = sym p.1 in
         let r : read chars ≡ good k a ds = e ∙ ap (λ (x : ℕ). good k x ds) a-is in
         let f : Fields chars k a ds = read_fields chars k a ds r in
         let t : Known (get_or chars 1 0) (width k) = known_kind (get_or chars 1 0) k f.type_known in
@@ -164,8 +178,8 @@ got chars place kind a n q = go (read chars) refl
           k = k;
           ds = ds;
           is = r;
-          len = n-is;
-          known_is = ap kind_of (kind-is ∙ type_of_kind (get_or chars 1 0) k f.type_known) ∙ f.type_known;
+          len = sym p.2;
+          known_is = ap kind_of (p.0 ∙ type_of_kind (get_or chars 1 0) k f.type_known) ∙ f.type_known;
           fields = f;
           small = (o.1, omega (arith, o.0.short), t.low, t.high);
         }

@@ -2,10 +2,10 @@
 use mathlib.Core.Path.{◌≡◌, refl, sym, ap, ◌∙◌, subst}
 use Prim.Native.Nat.{ℕ, ◌+◌, ◌*◌, ◌≤◌, ◌<◌}
 use native.Mathlib.Omega.{arith}
-use mathlib.Core.Bool.{Bool, true, false, not, ◌&&◌}
+use mathlib.Core.Bool.{Bool, true, false, not, ◌&&◌, ◌||◌}
 use mathlib.Core.Option.{Option, none, some}
 use lib.Dec.{leb, ltb, eqb, lit≤}
-use borrow.Author.Tests.{eqb-true, eqb-false, eq-eqb, ne_eqb, ltb-true, ltb-false, lt-ltb, le-ltb, le-leb, lt-leb}
+use borrow.Author.Tests.{eqb-true, eqb-false, eq-eqb, ne_eqb, ltb-true, ltb-false, lt-ltb, le-ltb, le-leb}
 use Rattle.srec.specs.Kinds.{Kind, kind_of, type_of, width, has_data, known}
 use Rattle.srec.specs.Kinds.Kind.{S0, Data, S5, End}
 use Rattle.srec.specs.Reading.{row6}
@@ -55,9 +55,9 @@ known_type c w q h = go (kind_of c) refl (kind_facts c)
         let v : width k ≡ w = sym (q ∙ ap width_or0 e) in
         record { kind = k; is = e; type_is = f.0; width_is = v; low = omega (arith, f.1); high = omega (arith, f.2); data_is = f.3 }
 
--- its address bytes, as `width_of` gives them
-pub known_width : {c w : ℕ} → Known c w → width_or0 (kind_of c) ≡ w
-known_width t = ap width_or0 t.is ∙ t.width_is
+-- a type in the table has 2 address bytes or more
+pub width_least : (c : ℕ) → (width_or0 (kind_of c) ≡ 0 → ⊥) → 2 ≤ width_or0 (kind_of c)
+width_least c h = (known_type c (width_or0 (kind_of c)) refl h).low
 
 -- the kind of a record that was read, by its type character
 pub known_kind : (c : ℕ) (k : Kind) → kind_of c ≡ some k → Known c (width k)
@@ -91,10 +91,6 @@ module _ (c w n count : ℕ) (t : Known c w) where
   pub row_6_data : n ≡ 4 + 2 * count → w + 1 ≤ count → c ≤ 51 → row6 (known (kind_of c)) n count ≡ false
   row_6_data h l d = six_last h l ∙ rw (le-leb c 51 d)
 
-  -- for a type without data the count alone decides
-  pub row_6_none : n ≡ 4 + 2 * count → w + 1 ≤ count → 51 < c → row6 (known (kind_of c)) n count ≡ not (eqb count (w + 1))
-  row_6_none h l d = six_last h l ∙ rw (lt-leb c 51 d)
-
   -- what a record that passes row 6 has
   pub row_6_inv : row6 (known (kind_of c)) n count ≡ false → (n ≡ 4 + 2 * count) × (w + 1 ≤ count)
   row_6_inv h =
@@ -105,3 +101,21 @@ module _ (c w n count : ℕ) (t : Known c w) where
     where
       both : {b : Bool} → b ≡ true → b ≡ false → ⊥
       both p q = let z : ◌≡◌ {A = ℕ} 0 1 = cc in omega arith
+
+  -- it does not apply, by its tests
+  six_tests : not (row6 (known (kind_of c)) n count) ≡ (eqb n (4 + 2 * count) && not (ltb count (w + 1)) && (leb c 51 || eqb count (w + 1)))
+  unfolding row6
+  six_tests = rw (t.is, t.width_is, t.data_is) (tests (eqb n (4 + 2 * count)) (ltb count (w + 1)) (leb c 51) (eqb count (w + 1)))
+    where
+      tests : (p q r s : Bool) → not (not p || q || (not r && not s)) ≡ (p && not q && (r || s))
+      tests false q r s = refl
+      tests true true r s = refl
+      tests true false true s = refl
+      tests true false false true = refl
+      tests true false false false = refl
+
+-- the answer of `fits`
+pub fits_is : (c n count : ℕ) → 2 ≤ width_or0 (kind_of c)
+    → not (row6 (known (kind_of c)) n count)
+    ≡ (eqb n (4 + 2 * count) && not (ltb count (width_or0 (kind_of c) + 1)) && (leb c 51 || eqb count (width_or0 (kind_of c) + 1)))
+fits_is c n count h = six_tests c (width_or0 (kind_of c)) n count (known_type c (width_or0 (kind_of c)) refl (λ e. omega arith))

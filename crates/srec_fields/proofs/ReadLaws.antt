@@ -1,7 +1,7 @@
 -- Rows 3 to 7 by the characters of a record: one law for each answer of `read_record`.
 use mathlib.Core.Path.{◌≡◌, refl, sym, ap, ◌∙◌}
 use Prim.Native.Nat.{ℕ, zero, suc, ◌+◌, ◌-◌, ◌*◌, ◌%◌, ◌≤◌, ◌<◌}
-use native.Mathlib.Nat.{add-zero, add_assoc}
+use native.Mathlib.Nat.{add-zero, add_assoc, add-sub_cancel_left}
 use native.Mathlib.Omega.{arith}
 use mathlib.Core.Bool.{true, false, cond, not}
 use mathlib.Core.List.{List, [], ◌∷◌}
@@ -9,7 +9,11 @@ use mathlib.Core.Option.{Option, none, some}
 use lib.Dec.{eqb, ltb}
 use lib.ListN.{length, get_or, take, drop, length-drop}
 use lib.Seq.{get_or-drop}
-use borrow.Author.Tests.{lt-ltb, le-ltb, ltb-false, eq-eqb, ne_eqb}
+use borrow.Author.Tests.{lt-ltb, le-ltb, ltb-false, eq-eqb, ne_eqb, not-true, not-false}
+use Rattle.std.specs.Prelude.{Result}
+use Rattle.lists.proofs.PartLaws.{rest}
+use Rattle.text.specs.declared.Fault.{Fault as TextFault}
+use Rattle.srec_fields.specs.declared.Record.{Record}
 use Rattle.lists.proofs.TestLaws.{by_test}
 use Rattle.hex_digits.specs.Digits.{byte_of, bytes, first_bad}
 use Rattle.hex_digits.specs.Numbers.{number, sum}
@@ -20,14 +24,13 @@ use Rattle.hex_digits.proofs.PairLaws.{byte_at, take_bytes, length_bytes}
 use Rattle.srec.specs.Kinds.{Kind, kind_of, width, is_known, known}
 use Rattle.srec.specs.Reading.{Read, fault, mismatch, right, checksum, row3, row4, row5, row6, row7, address_in, data_in, read}
 use Rattle.srec.specs.Reading.Read.{good, bad}
-use Rattle.srec_fields.specs.declared.Record.TheVariants.{Good, Bad}
 use Rattle.srec_fields.specs.Records.{width_or0, width_in, as_record}
-use Rattle.srec_fields.proofs.KindLaws.{Known, known_type, known_kind, row_6_inv}
-use Rattle.srec_fields.proofs.FieldLaws.{bs, count, past_4, address_at, length_data}
+use Rattle.srec_fields.proofs.KindLaws.{Known, known_type, width_least, known_kind, row_6_inv}
+use Rattle.srec_fields.proofs.FieldLaws.{says, refused, bs, count, count_at, past_4, address_at, length_data}
 
 -- a refusal at the record's first character
-pub at_place : (place : ℕ) {reason : ℕ} {r : Read} → fault reason 0 ≡ r → Bad reason place 0 ≡ as_record place r
-at_place place {reason} e = ap (λ (p : ℕ). Bad reason p 0) (sym (add-zero place)) ∙ ap (as_record place) e
+pub at_place : (place : ℕ) {reason : ℕ} {r : Read} → fault reason 0 ≡ r → refused reason place 0 ≡ as_record place r
+at_place place {reason} e = ap (λ (p : ℕ). refused reason p 0) (sym (add-zero place)) ∙ ap (as_record place) e
 
 module _ (chars : List ℕ) where
   -- the record is too long
@@ -117,6 +120,9 @@ module _ (chars : List ℕ) where
     unfolding row5
     row_6 l e six = sym (left ∙ rw (le-ltb (first_bad (drop 2 chars)) (length (drop 2 chars)) l, ap (row6 k (length chars)) (sym e) ∙ six))
 
+-- the answers of `width_in`
+pub ruleset width_laws = (width_long, width_short, width_letter, width_type, width_least)
+
 -- a record that passes rows 3 to 6
 pub record Sized (chars : List ℕ) (w n : ℕ) : Type 0 where
   pub head : Head chars w
@@ -164,14 +170,14 @@ module _ (chars : List ℕ) (w n : ℕ) (z : Sized chars w n) where
       ∙ rw (le-ltb (first_bad (drop 2 chars)) (length (drop 2 chars)) z.digits, six, check_at, sum_at_lem, z.head.type_known.is)
 
   -- they differ
-  pub row_7 : (given ≡ wanted → ⊥) → (place : ℕ) → Bad 7 place wanted ≡ as_record place (read chars)
+  pub row_7 : (given ≡ wanted → ⊥) → (place : ℕ) → refused 7 place wanted ≡ as_record place (read chars)
   row_7 e place =
       let r : read chars ≡ bad (record { reason = 7; offset = 0; want = wanted }) = left_seven ∙ rw (ne_eqb given wanted e) in
-      ap (λ (p : ℕ). Bad 7 p wanted) (sym (add-zero place)) ∙ ap (as_record place) (sym r)
+      ap (λ (p : ℕ). refused 7 p wanted) (sym (add-zero place)) ∙ ap (as_record place) (sym r)
 
   -- they agree: no row refuses the record
   pub good_record : given ≡ wanted → (place : ℕ)
-      → Good (get_or chars 1 0) (number (bytes (take (2 * w) (drop 4 chars)))) (n - (w + 1)) ≡ as_record place (read chars)
+      → says (get_or chars 1 0) (number (bytes (take (2 * w) (drop 4 chars)))) (n - (w + 1)) ≡ as_record place (read chars)
   good_record e place =
       let r : read chars ≡ good v (address_in v all) (data_in v all) = left_seven ∙ rw (eq-eqb given wanted e) in
       let a : address_in v all ≡ number (bytes (take (2 * w) (drop 4 chars)))
@@ -179,7 +185,7 @@ module _ (chars : List ℕ) (w n : ℕ) (z : Sized chars w n) where
       let d : length (data_in v all) ≡ n - (w + 1)
       = length_data chars v (omega (arith, z.long, z.count_is)) (omega (arith, z.least, z.count_is, z.head.type_known.width_is))
       ∙ omega (arith, z.count_is, z.head.type_known.width_is) in
-      (λ i. Good (sym z.head.type_known.type_is i) (sym a i) (sym d i))
+      (λ i. says (sym z.head.type_known.type_is i) (sym a i) (sym d i))
       ∙ ap (as_record place) (sym r)
 
 -- ---- by the sum, as `read_good` reads
@@ -212,3 +218,80 @@ module _ (chars : List ℕ) (w n : ℕ) (z : Sized chars w n) where
       let last : get_or (bs chars) n 0 ≡ given chars w n z = ap (λ (j : ℕ). get_or (bs chars) j 0) z.count_is ∙ check_at chars w n z in
       let all_of : sum (bs chars) ≡ sum (bytes (take (2 * n) (drop 2 chars))) + given chars w n z = rw (first, last) at s in
       omega (arith, all_of, e, value_small (get_or chars (2 + 2 * n) 0), value_small (get_or chars (2 + 2 * n + 1) 0))
+
+-- ---- the answers of `read_record`, as it computes them
+
+module _ (chars : List ℕ) (place : ℕ) where
+  -- the record at its place
+  abbrev told : Result Record TextFault
+  told = as_record place (read chars)
+
+  -- the index of the first character behind the type that is no digit
+  abbrev wrong : ℕ
+  wrong = first_bad (take (length chars - 2) (drop 2 chars))
+
+  -- its kind and its count
+  abbrev own : Kind
+  own = known (kind_of (get_or chars 1 0))
+
+  abbrev counted : ℕ
+  counted = byte_of (get_or chars 2 0) (get_or chars 3 0)
+
+  -- too many characters
+  pub refused_3 : 514 < length chars → refused 3 place 0 ≡ told
+  refused_3 h = at_place place (row_3 chars h)
+
+  -- no S, or no type of the table
+  pub refused_4 : width_in chars ≡ 0 → length chars ≤ 514 → refused 4 place 0 ≡ told
+  refused_4 z h = at_place place (row_4 chars 0 (sym z) refl h)
+
+  module _ (head : width_in chars ≡ 0 → ⊥) where
+    headed : Head chars (width_in chars)
+    headed = head_of chars (width_in chars) refl head
+
+    -- a character that is no digit
+    pub refused_5 : wrong < length chars - 2 → refused 5 (place + 2 + wrong) 0 ≡ told
+    refused_5 l =
+        let e : wrong ≡ first_bad (drop 2 chars) = ap first_bad (rest 2 chars) in
+        (λ i. refused 5 (add_assoc place 2 wrong i) 0) ∙ ap (λ (j : ℕ). refused 5 (place + (2 + j)) 0) e
+        ∙ ap (as_record place) (row_5 chars (width_in chars) headed (omega (arith, e, length-drop 2 chars)))
+
+    module _ (digits : length chars - 2 ≤ wrong) where
+      all_digits : length (drop 2 chars) ≤ first_bad (drop 2 chars)
+      all_digits = let e : wrong ≡ first_bad (drop 2 chars) = ap first_bad (rest 2 chars) in omega (arith, e, length-drop 2 chars)
+
+      -- length, count and type do not agree
+      pub refused_6 : not (row6 own (length chars) counted) ≡ false → refused 6 place 0 ≡ told
+      refused_6 six = at_place place (row_6 chars (width_in chars) headed all_digits (count_at chars headed.four) (not-false _ six))
+
+      module _ (six : not (row6 own (length chars) counted) ≡ true) where
+        whole : Sized chars (width_in chars) counted
+        whole = sized chars (width_in chars) counted headed (count_at chars headed.four) (not-true _ six) all_digits
+
+        -- the checksum that it has, and that it should have
+        abbrev has : ℕ
+        has = byte_of (get_or chars (2 + 2 * counted) 0) (get_or chars (2 + 2 * counted + 1) 0)
+
+        abbrev should : ℕ
+        should = 255 - weighed (take (2 + 2 * counted - 2) (drop 2 chars)) % 256
+
+        should_is : should ≡ wanted chars (width_in chars) counted whole
+        should_is = rw add-sub_cancel_left (wanted_by chars (width_in chars) counted whole)
+
+        -- they differ
+        pub refused_7 : (has ≡ should → ⊥) → refused 7 place should ≡ told
+        refused_7 h = ap (refused 7 place) should_is ∙ row_7 chars (width_in chars) counted whole (λ e. h (e ∙ sym should_is)) place
+
+        -- no row refuses it
+        pub says_all : has ≡ should
+            → says (get_or chars 1 0) (number (bytes (take (4 + 2 * width_in chars - 4) (drop 4 chars)))) (counted - (width_in chars + 1)) ≡ told
+        says_all e = rw add-sub_cancel_left (good_record chars (width_in chars) counted whole (e ∙ should_is) place)
+
+        -- nor where all its bytes add up to 255 modulo 256
+        pub says_summed : sum (bytes (take (length chars - 2) (drop 2 chars))) % 256 ≡ 255
+            → says (get_or chars 1 0) (number (bytes (take (4 + 2 * width_in chars - 4) (drop 4 chars)))) (counted - (width_in chars + 1)) ≡ told
+        says_summed e =
+            rw add-sub_cancel_left (good_record chars (width_in chars) counted whole (checked chars (width_in chars) counted whole (rw (rest 2 chars) at e)) place)
+
+-- the answers of `read_record`
+pub ruleset read_laws = (refused_3, refused_4, refused_5, refused_6, refused_7, says_all)

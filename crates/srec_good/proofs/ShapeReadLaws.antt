@@ -1,5 +1,5 @@
 -- A record of the shape of a data record, read.
-use mathlib.Core.Path.{◌≡◌, refl, sym, ap, ◌∙◌}
+use mathlib.Core.Path.{◌≡◌, refl, ap, ◌∙◌}
 use Prim.Native.Nat.{ℕ, zero, suc, ◌+◌, ◌-◌, ◌*◌, ◌/◌, ◌%◌, ◌≤◌}
 use native.Mathlib.Omega.{arith}
 use mathlib.Core.List.{List}
@@ -9,11 +9,10 @@ use Rattle.hex_digits.specs.Numbers.{number, sum}
 use Rattle.hex_digits.proofs.DigitLaws.{value_small}
 use Rattle.srec.specs.Kinds.{kind_of}
 use Rattle.srec.specs.Reading.{read}
-use Rattle.srec_fields.specs.declared.Record.TheVariants.{Good}
 use Rattle.srec_fields.specs.Records.{width_or0, as_record}
 use Rattle.srec_fields.specs.Shapes.{DataShape}
 use Rattle.srec_fields.proofs.KindLaws.{known_type, row_6_data}
-use Rattle.srec_fields.proofs.FieldLaws.{count_at}
+use Rattle.srec_fields.proofs.FieldLaws.{says, count_at}
 use Rattle.srec_fields.proofs.ReadLaws.{Head, Sized, sized, checked, good_record}
 
 -- the type of data records with w address bytes
@@ -54,7 +53,7 @@ module _ (cs : List ℕ) (w : ℕ) (z : DataShape cs) (e : w ≡ get_or cs 1 0 -
 
   -- and row 7 if their sum is 255 modulo 256: the return of `read_data`
   pub data_good : length (drop 2 cs) ≤ first_bad (drop 2 cs) → sum (bytes (drop 2 cs)) % 256 ≡ 255
-      → Good (get_or cs 1 0) (number (bytes (take (2 * w) (drop 4 cs)))) (length cs / 2 - 2 - (w + 1)) ≡ as_record 0 (read cs)
+      → says (get_or cs 1 0) (number (bytes (take (2 * w) (drop 4 cs)))) (length cs / 2 - 2 - (w + 1)) ≡ as_record 0 (read cs)
   data_good d s =
       let t = data_sized d in
       let count : length cs / 2 - 2 ≡ n = omega (arith, bounds.3) in

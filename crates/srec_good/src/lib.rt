@@ -2,12 +2,12 @@
 #![tactic(auto)]
 
 ghost use Rattle.std.specs.Prelude.{◌≡◌, true, ◌+◌, ◌*◌, ◌%◌, ◌≤◌, ◌<◌, length};
-ghost use Rattle.hex_digits.specs.Tables.{digit_table};
 ghost use Rattle.srec.specs.Reading.{read};
 ghost use Rattle.srec_fields.specs.Records.{GoodIs};
 ghost use Rattle.srec_fields.specs.Shapes.{DataShape};
 ghost use Rattle.srec_good.specs.Fields.{Gathers};
 
+use hex_read::DigitTable;
 use srec_fields::Record;
 
 // Where the address begins, and where a block of sixteen pairs ends that begins there.
@@ -24,15 +24,15 @@ struct Gathered {
 }
 
 // Gathers both. The address is in the first block of sixteen pairs; a record without one is short enough for the table.
-fn gather(table: &[u32; 256], chars: &[u8], width: usize) -> Gathered
-    requires { (table.now ≡ digit_table) × (2 ≤ width) × (width ≤ 4) × (4 + 2 * width ≤ length chars.now) × (length chars.now ≤ 514) × (length chars.now % 2 ≡ 0) }
+fn gather(table: &DigitTable, chars: &[u8], width: usize) -> Gathered
+    requires { (2 ≤ width) × (width ≤ 4) × (4 + 2 * width ≤ length chars.now) × (length chars.now ≤ 514) × (length chars.now % 2 ≡ 0) }
     ensures { Gathers chars.now width result.sum result.address }
 {
     if chars.len() < BLOCK_END {
         let data = ADDRESS + 2 * width;
         return Gathered {
-            sum: hex_read::weigh(table, &chars[2..]),
-            address: hex_read::number_of(table, &chars[ADDRESS..data]),
+            sum: table.weigh(&chars[2..]),
+            address: table.number_of(&chars[ADDRESS..data]),
         };
     }
     if !hex_sum::are_digits(&chars[ADDRESS..BLOCK_END]) {
@@ -51,50 +51,52 @@ fn gather(table: &[u32; 256], chars: &[u8], width: usize) -> Gathered
 fn is_right(sum: u32) -> bool
     ensures { result ≡ true → (sum < 131072) × (sum % 256 ≡ 255) }
 {
-    if sum >= hex_read::NONE {
-        return false;
-    }
-    sum % 256 == 255
+    sum < hex_read::NONE && sum % 256 == 255
 }
 
 // Reads a data record that no row refuses, by what it gathers. Which row refuses a record it does not tell.
-pub fn read_data(table: &[u32; 256], chars: &[u8]) -> Record
-    requires { (table.now ≡ digit_table) × DataShape chars.now }
+pub fn read_data(table: &DigitTable, chars: &[u8]) -> Option<Record>
+    requires { DataShape chars.now }
     ensures { GoodIs result (read chars.now) }
 {
     let kind = chars[1];
     let width = srec_fields::data_width(kind);
-    let gathered = gather(table, chars, width);
-    let sum = gathered.sum;
+    let Gathered { sum, address } = gather(table, chars, width);
     if !is_right(sum) {
-        return Record::Bad(0, 0, 0);
+        return None;
     }
     let count = chars.len() / 2 - 2;
-    let size = count - (width + 1);
-    Record::Good(kind, gathered.address, size)
+    Some(Record {
+        kind,
+        address,
+        count: count - (width + 1),
+    })
 }
 
 // Reads a record that no row refuses, with one walk over its digits: their sum tells whether all are digits, and is that of the
 // bytes, which the checksum makes 255 modulo 256. Which row refuses a record it does not tell: `read_record` does.
-pub fn read_good(table: &[u32; 256], chars: &[u8]) -> Record
-    requires { table.now ≡ digit_table }
+#[tactic(auto, using(srec_fields::proofs::ReadLaws::says_summed))]
+pub fn read_good(table: &DigitTable, chars: &[u8]) -> Option<Record>
     ensures { GoodIs result (read chars.now) }
 {
     let width = srec_fields::width_in(chars);
     if width == 0 {
-        return Record::Bad(0, 0, 0);
+        return None;
     }
     let kind = chars[1];
-    let count = hex_read::byte_of(table, chars[2], chars[3]) as usize;
+    let count = table.byte_of(chars[2], chars[3]) as usize;
     if !srec_fields::fits(kind, width, chars.len(), count) {
-        return Record::Bad(0, 0, 0);
+        return None;
     }
     let sum = hex_sum::sum_digits(table, &chars[2..]);
     if !is_right(sum) {
-        return Record::Bad(0, 0, 0);
+        return None;
     }
     let data = 4 + 2 * width;
-    let address = hex_read::number_of(table, &chars[4..data]);
-    let size = count - (width + 1);
-    Record::Good(kind, address, size)
+    let address = table.number_of(&chars[4..data]);
+    Some(Record {
+        kind,
+        address,
+        count: count - (width + 1),
+    })
 }

@@ -11,21 +11,20 @@ use lib.ListN.{length, replicate, length-replicate}
 use borrow.Author.Tests.{eq-eqb, ne_eqb, lt-ltb, le-ltb}
 use Rattle.srec.specs.Kinds.{Kind, kind_of, type_of, width, is_known, known}
 use Rattle.srec.specs.Kinds.Kind.{S0, Data, S5, End}
-use Rattle.window.specs.declared.Entry.TheVariants.{Present}
+use Rattle.std.specs.Prelude.{Some}
 use Rattle.text.specs.declared.State.{State}
 use Rattle.text.specs.declared.Step.{Step}
 use Rattle.text.specs.declared.Step.TheVariants.{Refuse, Pass, Put, Finish}
 use Rattle.text.specs.Scan.{State as ScanState, more, more_data}
 use Rattle.text.specs.Scan.Step.{put}
-use Rattle.text.specs.Steps.{numbers, state_with, as_step}
+use Rattle.text.specs.Steps.{CanCount, numbers, state_with, as_step}
 use Rattle.text.proofs.StepLaws.{Counting}
 use Rattle.srec.specs.Reading.{Read, read}
 use Rattle.srec.specs.Reading.Read.{good, bad}
 use Rattle.srec.specs.Judging.{row8, row10, row11, carried, judge, judged}
 use Rattle.srec.specs.Formats.{srec}
 use Rattle.lists.proofs.TestLaws.{by_test}
-use Rattle.srec_fields.specs.declared.Record.TheVariants.{Bad}
-use Rattle.srec_fields.specs.Records.{width_or0, as_record}
+use Rattle.srec_fields.specs.Records.{width_or0}
 use Rattle.srec_fields.proofs.KindLaws.{Known, known_kind, type_of_kind}
 use Rattle.srec_fields.proofs.FieldLaws.{read_fields, Got}
 
@@ -43,53 +42,45 @@ some_kind c h = go (kind_of c) refl
 pub record Sort (c w : ℕ) (k : Kind) : Type 0 where
   pub s0 : c ≡ 48 → k ≡ S0
   pub s5 : c ≡ 53 → k ≡ S5
-  pub data_is : (c ≡ 48 → ⊥) → (c ≡ 53 → ⊥) → c ≤ 53 → k ≡ Data w
-  pub end_is : 53 < c → k ≡ End w
+  pub data_is : 49 ≤ c → c ≤ 51 → k ≡ Data w
+  pub end_is : (c ≡ 48 → ⊥) → (c ≡ 53 → ⊥) → (49 ≤ c → c ≤ 51 → ⊥) → k ≡ End w
   pub low : 2 ≤ w
   pub high : w ≤ 4
 
 -- each kind with 2 to 4 address bytes is the one that its type character stands for
 sort : (k : Kind) (c : ℕ) → type_of k ≡ c → 2 ≤ width k → width k ≤ 4 → Sort c (width k) k
-sort S0 c e l h =
-    record {
-      s0 = λ q. refl;
-      s5 = λ q. absurd (omega arith);
-      data_is = λ n m q. absurd (n (sym e));
-      end_is = λ q. absurd
-          (omega arith);
-      low = l;
-      high = h;
-    }
-sort (Data w) c e l h =
-    record {
-      s0 = λ q. absurd (omega arith);
-      s5 = λ q. absurd (omega arith);
-      data_is = λ n m q. refl;
-      end_is = λ q. absurd
-          (omega arith);
-      low = l;
-      high = h;
-    }
-sort S5 c e l h =
-    record {
-      s0 = λ q. absurd (omega arith);
-      s5 = λ q. refl;
-      data_is = λ n m q. absurd (m (sym e));
-      end_is = λ q. absurd
-          (omega arith);
-      low = l;
-      high = h;
-    }
-sort (End w) c e l h =
-    record {
-      s0 = λ q. absurd (omega arith);
-      s5 = λ q. absurd (omega arith);
-      data_is = λ n m q. absurd
-          (omega arith);
-      end_is = λ q. refl;
-      low = l;
-      high = h;
-    }
+sort S0 c e l h = record {
+  s0 = λ q. refl;
+  s5 = λ q. absurd (omega arith);
+  data_is = λ p q. absurd (omega arith);
+  end_is = λ n m q. absurd (n (sym e));
+  low = l;
+  high = h;
+}
+sort (Data w) c e l h = record {
+  s0 = λ q. absurd (omega arith);
+  s5 = λ q. absurd (omega arith);
+  data_is = λ p q. refl;
+  end_is = λ n m q. absurd (q (omega arith) (omega arith));
+  low = l;
+  high = h;
+}
+sort S5 c e l h = record {
+  s0 = λ q. absurd (omega arith);
+  s5 = λ q. refl;
+  data_is = λ p q. absurd (omega arith);
+  end_is = λ n m q. absurd (m (sym e));
+  low = l;
+  high = h;
+}
+sort (End w) c e l h = record {
+  s0 = λ q. absurd (omega arith);
+  s5 = λ q. absurd (omega arith);
+  data_is = λ p q. absurd (omega arith);
+  end_is = λ n m q. refl;
+  low = l;
+  high = h;
+}
 
 -- what the type character says of a known kind
 pub sort_of : (c : ℕ) → is_known (kind_of c) ≡ true → Sort c (width_or0 (kind_of c)) (known (kind_of c))
@@ -98,51 +89,61 @@ sort_of c h =
     let t : Known c (width k.0) = known_kind c k.0 k.1 in
     subst (λ (o : Option Kind). Sort c (width_or0 o) (known o)) (sym k.1) (sort k.0 c (type_of_kind c k.0 k.1) t.low t.high)
 
+-- a known type has 2 to 4 address bytes
+pub width_low : (c : ℕ) → is_known (kind_of c) ≡ true → 2 ≤ width_or0 (kind_of c)
+width_low c h = (sort_of c h).low
+
+pub width_high : (c : ℕ) → is_known (kind_of c) ≡ true → width_or0 (kind_of c) ≤ 4
+width_high c h = (sort_of c h).high
+
 -- ---- each answer of `judge`
 
-module _ (place : ℕ) (n : State) (k : Kind) (a count : ℕ) where
+module _ (place : ℕ) (n : State) (c a count : ℕ) (h : is_known (kind_of c) ≡ true) where
   -- the step that the definitions take
   abbrev taken : Step
-  taken = as_step place (state_with [] n) (judge (state_with [] n) k a (replicate count 0))
+  taken = as_step place (state_with [] n) (judge (state_with [] n) (known (kind_of c)) a (replicate count 0))
 
   -- the state behind one record more
   abbrev next : State
   next = numbers (more (state_with [] n) [])
 
   -- an S0 that is not the first record
-  pub row_8 : k ≡ S0 → (n.number ≡ 0 → ⊥) → Refuse 8 place 0 ≡ taken
+  pub row_8 : c ≡ 48 → (n.number ≡ 0 → ⊥) → Refuse 8 place 0 ≡ taken
   unfolding judge row8
-  row_8 e z = rw (e, ne_eqb n.number 0 z, add-zero)
+  row_8 e z = rw ((sort_of c h).s0 e, ne_eqb n.number 0 z, add-zero)
 
   -- an S0 that is the first record
-  pub passed_s0 : k ≡ S0 → n.number ≡ 0 → Pass next ≡ taken
+  pub passed_s0 : c ≡ 48 → n.number ≡ 0 → Pass next ≡ taken
   unfolding judge row8
-  passed_s0 e z = rw (e, eq-eqb n.number 0 z)
+  passed_s0 e z = rw ((sort_of c h).s0 e, eq-eqb n.number 0 z)
 
   -- an S5 with another number
-  pub row_10 : k ≡ S5 → (a ≡ n.records → ⊥) → Refuse 10 place 0 ≡ taken
+  pub row_10 : c ≡ 53 → (a ≡ n.records → ⊥) → Refuse 10 place 0 ≡ taken
   unfolding judge row10
-  row_10 e z = rw (e, ne_eqb a n.records z, add-zero)
+  row_10 e z = rw ((sort_of c h).s5 e, ne_eqb a n.records z, add-zero)
 
   -- an S5 with the right number
-  pub passed_s5 : k ≡ S5 → a ≡ n.records → Pass next ≡ taken
+  pub passed_s5 : c ≡ 53 → a ≡ n.records → Pass next ≡ taken
   unfolding judge row10
-  passed_s5 e z = rw (e, eq-eqb a n.records z)
+  passed_s5 e z = rw ((sort_of c h).s5 e, eq-eqb a n.records z)
 
   -- a terminator, of any width
-  pub finished : (w : ℕ) → k ≡ End w → Finish next (Present a) ≡ taken
+  pub finished : (c ≡ 48 → ⊥) → (c ≡ 53 → ⊥) → (49 ≤ c → c ≤ 51 → ⊥) → Finish next (Some a) ≡ taken
   unfolding judge
-  finished w e = rw e
+  finished p q r = rw ((sort_of c h).end_is p q r)
 
   -- the data passes the end of its own width
-  pub row_11 : (w : ℕ) → k ≡ Data w → 2 ^ (8 * w) < a + count → Refuse 11 place 0 ≡ taken
+  pub row_11 : 49 ≤ c → c ≤ 51 → 2 ^ (8 * width_or0 (kind_of c)) < a + count → Refuse 11 place 0 ≡ taken
   unfolding judge row11
-  row_11 w e l = rw (e, length-replicate, lt-ltb (2 ^ (8 * w)) (a + count) l, add-zero)
+  row_11 p q l = rw ((sort_of c h).data_is p q, length-replicate, lt-ltb (2 ^ (8 * width_or0 (kind_of c))) (a + count) l, add-zero)
 
   -- data within its own width
-  pub stored : (w : ℕ) → k ≡ Data w → a + count ≤ 2 ^ (8 * w) → Put (numbers (more_data (state_with [] n) count)) a count ≡ taken
+  pub stored : 49 ≤ c → c ≤ 51 → a + count ≤ 2 ^ (8 * width_or0 (kind_of c)) → Put (numbers (more_data (state_with [] n) count)) a count ≡ taken
   unfolding judge row11
-  stored w e l = rw (e, length-replicate, le-ltb (2 ^ (8 * w)) (a + count) l, length-replicate)
+  stored p q l = rw ((sort_of c h).data_is p q, length-replicate, le-ltb (2 ^ (8 * width_or0 (kind_of c))) (a + count) l, length-replicate)
+
+-- the answers of `judge`
+pub ruleset judge_laws = (row_8, passed_s0, row_10, passed_s5, finished, row_11, stored, width_low, width_high)
 
 -- ---- the numbers decide the step
 
@@ -156,23 +157,21 @@ judge_numbers place s (Data w) a ds =
 judge_numbers place s S5 a ds = by_test (row10 s a) (λ e. rw e refl) (λ e. rw e refl)
 judge_numbers place s (End w) a ds = refl
 
+-- a record that was read has a type in the table
+pub type_known : {chars : List ℕ} {kind a count : ℕ} → Got chars kind a count → is_known (kind_of kind) ≡ true
+type_known g = ap is_known g.known_is
+
 module _ (place : ℕ) (n : State) (chars : List ℕ) where
   -- the step that the definitions take of the characters
   abbrev whole : Step
   whole = as_step place (state_with [] n) (judged (state_with [] n) (read chars))
 
-  -- where the numbers have room for a record's characters, they have it for what it adds
-  pub judge_fits : {kind a count : ℕ} → Got chars kind a count
-      → (n.number + length chars < 2 ^ 64) × (n.records + length chars < 2 ^ 64) × (n.cells + length chars < 2 ^ 64)
-      → (is_known (kind_of kind) ≡ true) × (n.number + 1 < 2 ^ 64) × (n.records + 1 < 2 ^ 64) × (n.cells + count < 2 ^ 64) × (count < 2 ^ 32)
-  judge_fits g room =
-      let long = g.fields.long in (
-        ap is_known g.known_is,
-        omega (arith, room.0, long),
-        omega (arith, room.1, long),
-        omega (arith, room.2, long, g.len),
-        omega (arith, g.small.1),
-      )
+  -- what `judge` asks of the numbers: where they have room for a record's characters, they have it for what it adds
+  pub counts_fit : {kind a count : ℕ} → Got chars kind a count → CanCount n (length chars)
+      → (n.number + 1 < 2 ^ 64) × (n.records + 1 < 2 ^ 64) × (n.cells + count < 2 ^ 64) × (count < 2 ^ 32)
+  counts_fit g room =
+      let long = g.fields.long in
+      (omega (arith, room.0, long), omega (arith, room.1, long), omega (arith, room.2, long, g.len), omega (arith, g.small.1))
 
   -- a record that was read is judged
   pub step_good : {kind a count : ℕ} → Got chars kind a count → (r : Step)
@@ -181,14 +180,6 @@ module _ (place : ℕ) (n : State) (chars : List ℕ) where
       q ∙ (λ i. as_step place (state_with [] n) (judge (state_with [] n) (known (g.known_is i)) a (replicate (sym g.len i) 0)))
       ∙ judge_numbers place (state_with [] n) g.k a g.ds
       ∙ ap (λ (x : Read). as_step place (state_with [] n) (judged (state_with [] n) x)) (sym g.is)
-
-  -- a record that cannot be read is refused where its row says
-  pub step_bad : (reason at want : ℕ) → Bad reason at want ≡ as_record place (read chars) → Refuse reason at want ≡ whole
-  step_bad reason at want q = go (read chars) q
-    where
-      go : (r : Read) → Bad reason at want ≡ as_record place r → Refuse reason at want ≡ as_step place (state_with [] n) (judged (state_with [] n) r)
-      go (good k a ds) e = absurd (let z : ◌≡◌ {A = ℕ} 0 1 = cc in omega arith)
-      go (bad f) e = cc
 
 -- ---- S-records count
 

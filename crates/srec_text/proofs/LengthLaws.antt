@@ -9,7 +9,7 @@ use lib.Dec.{leb}
 use lib.ListN.{length, length-append}
 use Rattle.lists.proofs.TestLaws.{by_test}
 use Rattle.window.specs.Cells.{Cell, Run, total}
-use Rattle.window.specs.declared.Entry.TheVariants.{Present}
+use Rattle.std.specs.Prelude.{Some}
 use Rattle.window.proofs.CellLaws.{total_flat}
 use Rattle.text.specs.Runs.{runs, data_lines}
 use Rattle.text.proofs.RunLaws.{flat_runs}
@@ -46,7 +46,7 @@ length_count n rest = by_test (leb n 65535) (λ e. rw e (length_before S5 n [] r
 
 -- the formula is the length: row 17
 pub length_canonical : (cs : List Cell) (header : List ℕ) (e : ℕ)
-    → length (canonical cs header (Present e)) ≡ length_for (length (runs follow cs)) (length cs) (length header) (width_for (largest e cs))
+    → length (canonical cs header (Some e)) ≡ length_for (length (runs follow cs)) (length cs) (length header) (width_for (largest e cs))
 unfolding canonical length_for
 length_canonical cs header e =
     let w : ℕ = width_for (largest e cs) in

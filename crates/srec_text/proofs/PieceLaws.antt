@@ -6,7 +6,7 @@ use lib.Dec.{leb}
 use lib.ListN.{length}
 use borrow.Author.Tests.{le-leb, lt-leb}
 use Rattle.lists.proofs.TestLaws.{by_test}
-use Rattle.window.specs.declared.Entry.TheVariants.{Present}
+use Rattle.std.specs.Prelude.{Some}
 use Rattle.window.specs.Windows.{Window}
 use Rattle.lists.specs.Lists.{over}
 use Rattle.window.specs.Cells.{Run, shown}
@@ -50,7 +50,7 @@ count_left_out n h = rw (lt-leb n 65535 h)
 
 -- S0, the data records, S5 and the terminator
 pub text_pieces : (W : Window) (header : List ℕ) (e records w : ℕ) → records ≡ length (runs follow (shown W)) → w ≡ width_for (largest e (shown W))
-    → text_of srec W header (Present e) ≡ line_of 48 2 0 header ++ (data_text Records w (shown W) ++ (count_text records ++ (line_of (59 - w) w e [] ++ [])))
+    → text_of srec W header (Some e) ≡ line_of 48 2 0 header ++ (data_text Records w (shown W) ++ (count_text records ++ (line_of (59 - w) w e [] ++ [])))
 unfolding text_of canonical
 text_pieces W header e records w p q =
     let last : List ℕ = line (End w) e [] [] in

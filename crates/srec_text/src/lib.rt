@@ -2,7 +2,7 @@
 #![tactic(auto)]
 
 ghost use Rattle.std.specs.Prelude.{◌≡◌, ◌+◌, ◌^◌, ◌≤◌, length};
-ghost use Rattle.window.specs.declared.Entry.TheVariants.{Present};
+ghost use Rattle.std.specs.Prelude.{Some};
 ghost use Rattle.window.specs.Windows.{window_of};
 ghost use Rattle.lists.specs.Lists.{over};
 ghost use Rattle.window.specs.Cells.{shown};
@@ -70,8 +70,8 @@ pub fn put_text(
     requires marks_len { (length marks.now ≡ mark_bytes form (length memory.now)) × (base + length memory.now ≤ 2 ^ 32) × (length header.now ≤ 252) }
     requires records_value { records ≡ length (runs follow (shown (plain form (window_of base memory.now marks.now)))) }
     requires width_value { width ≡ width_for (largest entry (shown (plain form (window_of base memory.now marks.now)))) }
-    requires in_bounds { length (text_of srec (plain form (window_of base memory.now marks.now)) header.now (Present entry)) ≤ length out.old }
-    ensures { out.new ≡ over out.old 0 (text_of srec (plain form (window_of base memory.now marks.now)) header.now (Present entry)) }
+    requires in_bounds { length (text_of srec (plain form (window_of base memory.now marks.now)) header.now (Some entry)) ≤ length out.old }
+    ensures { out.new ≡ over out.old 0 (text_of srec (plain form (window_of base memory.now marks.now)) header.now (Some entry)) }
 {
     let none = [0u8; 0];
     let behind_header = srec_encode::put_line(out, 0, b'0', 2, 0, header);

@@ -5,7 +5,7 @@ use mathlib.Core.Bool.{true, false}
 use mathlib.Core.List.{List}
 use lib.ListN.{length}
 use borrow.Author.Tests.{lt-ltb, le-ltb}
-use Rattle.window.specs.declared.Entry.TheVariants.{Absent, Present}
+use Rattle.std.specs.Prelude.{None, Some}
 use Rattle.window.specs.Windows.{Window}
 use Rattle.window.specs.Cells.{shown}
 use Rattle.window.specs.Plans.{refusal}
@@ -24,7 +24,7 @@ use Rattle.srec_text.proofs.LengthLaws.{length_canonical}
 -- what is computed before the text is written is its length
 pub need_is : (W : Window) (header : List ℕ) (e : ℕ) (size : Size) (width need : ℕ) → size ≡ size_of Records (shown W) e
     → width ≡ width_for size.largest
-    → need ≡ length_for size.records size.cells (length header) width → need ≡ length (text_of srec W header (Present e))
+    → need ≡ length_for size.records size.cells (length header) width → need ≡ length (text_of srec W header (Some e))
 unfolding text_of
 need_is W header e size width need p q r = rw (r, q, p) (sym (length_canonical (shown W) header e))
 
@@ -42,14 +42,14 @@ module _ (k : Call) (allowed : k.unfit ≡ false) where
 
     module _ (none : k.bad.applies ≡ false) where
       -- row 18
-      pub row_18 : k.entry ≡ Absent → outcome srec k ≡ declined (refusal 18 0 0)
+      pub row_18 : k.entry ≡ None → outcome srec k ≡ declined (refusal 18 0 0)
       unfolding row15 row18
       row_18 q = rw (allowed, le-ltb 252 (length k.header) short, none, q)
 
-      module _ (e : ℕ) (there : k.entry ≡ Present e) where
+      module _ (e : ℕ) (there : k.entry ≡ Some e) where
         -- the canonical text
         abbrev text : List ℕ
-        text = text_of srec k.window k.header (Present e)
+        text = text_of srec k.window k.header (Some e)
 
         -- row 17, with the length needed
         pub row_17 : k.room < length text → outcome srec k ≡ declined (refusal 17 0 (length text))

@@ -8,7 +8,7 @@ ghost use Rattle.text.specs.Write.{write, write_answer, output_after};
 ghost use Rattle.srec.specs.Formats.{srec};
 
 use formats::Format;
-use marks::{Bad, Form};
+use marks::Form;
 use window::{Entry, Written};
 
 // The most bytes of a header.
@@ -36,10 +36,10 @@ pub fn write_as(
     }
     let cells = memory.len();
     let bad = marks::first_bad(form, marks, cells);
-    if let Bad::At(place) = bad {
+    if let Some(place) = bad {
         return text::refused_write(16, place);
     }
-    let Entry::Present(start) = entry else {
+    let Some(start) = entry else {
         return text::refused_write(18, 0);
     };
     let size = size::size_of(Format::Records, base, form, marks, cells, start);

@@ -2,19 +2,19 @@
 #![tactic(auto)]
 
 ghost use Rattle.std.specs.Prelude.{◌≡◌, [], ◌+◌, ◌^◌, ◌≤◌, ◌<◌, length, drop};
-ghost use Rattle.hex_digits.specs.Tables.{digit_table};
 ghost use Rattle.text.specs.Lines.{lines};
-ghost use Rattle.text.specs.Steps.{state_with, as_step, SureIs, taken};
+ghost use Rattle.text.specs.Steps.{CanCount, CountedUpTo, state_with, as_step, SureIs, taken};
 ghost use Rattle.formats.specs.Choices.{format_of};
 ghost use Rattle.steps.specs.Sures.{SureTaken};
 
 use formats::Format;
-use text::{Found, State, Step, Sure, Taken};
+use hex_read::DigitTable;
+use text::{Found, State, Step, Taken};
 
 // What a line does that stands at a place of its text, behind the lines before it.
-fn step_of(format: Format, table: &[u32; 256], state: State, chars: &[u8], place: usize) -> Step
-    requires table_value { (table.now ≡ digit_table) × (place + length chars.now < 2 ^ 64) }
-    requires chars_bound { (state.number + length chars.now < 2 ^ 64) × (state.records + length chars.now < 2 ^ 64) × (state.cells + length chars.now < 2 ^ 64) }
+fn step_of(format: Format, table: &DigitTable, state: State, chars: &[u8], place: usize) -> Step
+    requires place_bound { place + length chars.now < 2 ^ 64 }
+    requires counts { CanCount state (length chars.now) }
     ensures { result ≡ as_step place (state_with [] state) ((format_of format).step (state_with [] state) chars.now) }
 {
     match format {
@@ -24,9 +24,15 @@ fn step_of(format: Format, table: &[u32; 256], state: State, chars: &[u8], place
 }
 
 // The same by one walk over the line's digits. It may only say yes.
-fn good_step(format: Format, table: &[u32; 256], state: State, chars: &[u8], place: usize) -> Sure
-    requires table_value { (table.now ≡ digit_table) × (place + length chars.now < 2 ^ 64) }
-    requires chars_bound { (state.number + length chars.now < 2 ^ 64) × (state.records + length chars.now < 2 ^ 64) × (state.cells + length chars.now < 2 ^ 64) }
+fn good_step(
+    format: Format,
+    table: &DigitTable,
+    state: State,
+    chars: &[u8],
+    place: usize,
+) -> Option<Step>
+    requires place_bound { place + length chars.now < 2 ^ 64 }
+    requires counts { CanCount state (length chars.now) }
     ensures { SureIs (format_of format) state place chars.now result }
 {
     match format {
@@ -36,54 +42,61 @@ fn good_step(format: Format, table: &[u32; 256], state: State, chars: &[u8], pla
 }
 
 // Takes the next line by looking for its end. A load comes here where one of rows 3 to 7 refuses a line, and behind the last line.
-fn search_next(format: Format, table: &[u32; 256], state: State, text: &[u8], at: usize) -> Taken
-    requires { (table.now ≡ digit_table) × (at ≤ length text.now) × (state.number ≤ at) × (state.records ≤ at) × (state.cells ≤ at) }
+fn search_next(
+    format: Format,
+    table: &DigitTable,
+    state: State,
+    text: &[u8],
+    at: usize,
+) -> Option<Taken>
+    requires { (at ≤ length text.now) × CountedUpTo state at }
     ensures { result ≡ taken (format_of format) state (lines (format_of format).gap at (drop at text.now)) }
 {
-    let found = lines::next_line(format, text, at);
-    let Found::At { from, to } = found else {
-        return Taken::Nothing;
-    };
+    let Found { from, to } = lines::next_line(format, text, at)?;
     let step = step_of(format, table, state, &text[from..to], from);
-    Taken::Line { from, to, step }
+    Some(Taken { from, to, step })
 }
 
 // Takes the next line if it is a data record that no row of 3 to 7 refuses, as most lines of most texts are; or none, which says
 // nothing.
-fn take_data(format: Format, table: &[u32; 256], state: State, text: &[u8], at: usize) -> Taken
-    requires { (table.now ≡ digit_table) × (at ≤ length text.now) × (state.number ≤ at) × (state.records ≤ at) × (state.cells ≤ at) }
+fn take_data(
+    format: Format,
+    table: &DigitTable,
+    state: State,
+    text: &[u8],
+    at: usize,
+) -> Option<Taken>
+    requires { (at ≤ length text.now) × CountedUpTo state at }
     ensures { SureTaken result (taken (format_of format) state (lines (format_of format).gap at (drop at text.now))) }
 {
     let Format::Records = format else {
-        return Taken::Nothing;
+        return None;
     };
     let from = at + lines::count_gaps(format, &text[at..]);
-    let to = srec_fields::data_end(table, text, from);
-    if to == 0 {
-        return Taken::Nothing;
-    }
-    let answer = srec_step::data_step(table, state, &text[from..to], from);
-    let Sure::Yes(step) = answer else {
-        return Taken::Nothing;
-    };
-    Taken::Line { from, to, step }
+    let to = srec_fields::data_end(table, text, from)?;
+    let step = srec_step::data_step(table, state, &text[from..to], from)?;
+    Some(Taken { from, to, step })
 }
 
 // Takes the next line from a place on, and what it does behind the lines before it. Its count says where it may end. A good line
 // that ends there has no separator inside, so it is the next one. This way may only say yes; for all else the end is searched.
-pub fn take_next(format: Format, table: &[u32; 256], state: State, text: &[u8], at: usize) -> Taken
-    requires { (table.now ≡ digit_table) × (at ≤ length text.now) × (state.number ≤ at) × (state.records ≤ at) × (state.cells ≤ at) }
+pub fn take_next(
+    format: Format,
+    table: &DigitTable,
+    state: State,
+    text: &[u8],
+    at: usize,
+) -> Option<Taken>
+    requires { (at ≤ length text.now) × CountedUpTo state at }
     ensures { result ≡ taken (format_of format) state (lines (format_of format).gap at (drop at text.now)) }
 {
-    let near = take_data(format, table, state, text, at);
-    if let Taken::Line { from, to, step } = near {
-        return Taken::Line { from, to, step };
+    if let Some(taken) = take_data(format, table, state, text, at) {
+        return Some(taken);
     }
     let from = at + lines::count_gaps(format, &text[at..]);
     let to = line_counts::counted_end(format, table, text, from);
-    let answer = good_step(format, table, state, &text[from..to], from);
-    let Sure::Yes(step) = answer else {
-        return search_next(format, table, state, text, at);
-    };
-    Taken::Line { from, to, step }
+    match good_step(format, table, state, &text[from..to], from) {
+        Some(step) => Some(Taken { from, to, step }),
+        None => search_next(format, table, state, text, at),
+    }
 }

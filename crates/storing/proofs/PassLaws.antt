@@ -7,7 +7,7 @@ use mathlib.Core.Logic.{◌⊎◌, inl, inr, ⊎_elim}
 use lib.ListN.{length, drop}
 use Rattle.lists.proofs.TestLaws.{by_test}
 use Rattle.window.specs.declared.Refusal.{Refusal}
-use Rattle.window.specs.declared.Entry.{Entry}
+use Rattle.window.specs.Entries.{Entry}
 use Rattle.lists.specs.Lists.{over}
 use Rattle.window.specs.Images.{Image, blank, overlaid}
 use Rattle.window.specs.Plans.{Plan, Outcome, row12, row13, filled, placed, Accepts}
@@ -15,7 +15,6 @@ use Rattle.window.specs.Plans.Plan.{store}
 use Rattle.window.specs.Plans.Outcome.{refused, accepted}
 use Rattle.window.proofs.ViewLaws.{length_overlaid}
 use Rattle.window.proofs.OverlayLaws.{overlaid_blank, overlaid_filled}
-use Rattle.text.specs.declared.Found.TheVariants.{Nothing}
 use Rattle.text.specs.Lines.{Line, lines}
 use Rattle.text.specs.Finds.{found}
 use Rattle.text.specs.Scan.{Fault, State, Step, start, more, more_data, ended, scan}
@@ -23,7 +22,7 @@ use Rattle.text.specs.Scan.Step.{refuse, skip, title, put, finish}
 use Rattle.text.specs.Formats.{Format, plan}
 use Rattle.text.specs.Load.{memory_after}
 use Rattle.text.proofs.FindLaws.{part, Next, next_is}
-use Rattle.text.proofs.TurnLaws.{Walk, walk_start, walk_none, walk_refused, walk_skip, walk_title, walk_ended, walk_store, walk_put}
+use Rattle.text.proofs.TurnLaws.{Walk, walk_start, walk_refused, walk_skip, walk_title, walk_ended, walk_store, walk_put}
 use Rattle.text.proofs.FormatLaws.{Limits, Lawful, IsRefusal}
 use Rattle.tape_read.proofs.LineFieldLaws.{length_at_lem}
 use Rattle.formats.specs.declared.Format.{Format as Choice}
@@ -71,12 +70,6 @@ module _ (F : Format) (L : Limits) (laws : Lawful F L) (text : List ℕ) (base :
   -- this is no refusal
   never : {f : Refusal} → refused f ≡ whole → ⊥
   never p = let q : refused _ ≡ accepted acc.sum acc.img = p ∙ acc.is in let z : ◌≡◌ {A = ℕ} 0 1 = cc in omega arith
-
-  -- at the end of the text
-  pub storing_end : (m : List ℕ) (at : ℕ) → Storing F text base m₀ m at → Nothing ≡ found (lines F.gap at (drop at text))
-      → m ≡ memory_after m₀ whole
-  storing_end m at (inl g) q = absurd (never (walk_none F text base (length m₀) g.img g.s at g.walk q))
-  storing_end m at (inr g) q = g.memory_is
 
   -- what one line comes to: it can be stored, and what it leaves goes on
   pub record Turn (m : List ℕ) (to : ℕ) (x : Step) : Type 0 where

@@ -2,7 +2,6 @@
 #![tactic(auto)]
 
 ghost use Rattle.std.specs.Prelude.{◌≡◌, length};
-ghost use Rattle.hex_digits.specs.Tables.{digit_table};
 ghost use Rattle.window.specs.Images.{blank};
 ghost use Rattle.window.specs.Plans.{placed, Accepts};
 ghost use Rattle.text.specs.Formats.{plan};
@@ -11,11 +10,12 @@ ghost use Rattle.formats.specs.Choices.{format_of};
 ghost use Rattle.placing.specs.Stores.{stored_by, Placeable};
 
 use formats::Format;
+use hex_read::DigitTable;
 use text::Found;
 
 // Stores the data of a line that was checked, in the format that is told.
-fn place(format: Format, table: &[u32; 256], base: usize, memory: &mut [u8], chars: &[u8])
-    requires { (table.now ≡ digit_table) × Placeable base (length memory.old) ((format_of format).part chars.now) }
+fn place(format: Format, table: &DigitTable, base: usize, memory: &mut [u8], chars: &[u8])
+    requires { Placeable base (length memory.old) ((format_of format).part chars.now) }
     ensures { memory.new ≡ stored_by base memory.old ((format_of format).part chars.now) }
 {
     match format {
@@ -25,16 +25,12 @@ fn place(format: Format, table: &[u32; 256], base: usize, memory: &mut [u8], cha
 }
 
 // Stores the data of every line of a text that was accepted.
-pub fn store_all(format: Format, table: &[u32; 256], text: &[u8], base: usize, memory: &mut [u8])
-    requires { (table.now ≡ digit_table) × Accepts (placed base (blank (length memory.old)) (plan (format_of format) text.now)) }
+pub fn store_all(format: Format, table: &DigitTable, text: &[u8], base: usize, memory: &mut [u8])
+    requires { Accepts (placed base (blank (length memory.old)) (plan (format_of format) text.now)) }
     ensures { memory.new ≡ memory_after memory.old (placed base (blank (length memory.old)) (plan (format_of format) text.now)) }
 {
-    let mut at: usize = 0;
-    loop {
-        let found = line_counts::next_counted(format, table, text, at);
-        let Found::At { from, to } = found else {
-            return;
-        };
+    let mut at = 0;
+    while let Some(Found { from, to }) = line_counts::next_counted(format, table, text, at) {
         place(format, table, base, memory, &text[from..to]);
         at = to;
     }

@@ -7,7 +7,7 @@ use lib.Dec.{eqb}
 use lib.ListN.{length}
 use borrow.Author.Tests.{eqb-true}
 use Rattle.lists.proofs.TestLaws.{by_test}
-use Rattle.window.specs.declared.Entry.{Entry}
+use Rattle.window.specs.Entries.{Entry}
 use Rattle.text.specs.declared.State.{State}
 use Rattle.text.specs.Lines.{Line}
 use Rattle.text.specs.Scan.{State as ScanState, ended}

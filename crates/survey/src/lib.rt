@@ -3,7 +3,6 @@
 #![tactic(auto)]
 
 ghost use Rattle.std.specs.Prelude.{◌≡◌, [], ◌∷◌, length};
-ghost use Rattle.hex_digits.specs.Tables.{digit_table};
 ghost use Rattle.text.specs.Formats.{plan};
 ghost use Rattle.formats.specs.Choices.{format_of};
 ghost use Rattle.data_byte.specs.Places.{bytes_in};
@@ -11,6 +10,7 @@ ghost use Rattle.spans.specs.Spans.{span_of, origin_among, origin_of, or_else};
 ghost use Rattle.survey.specs.Surveys.{store_of, survey_of};
 
 use formats::Format;
+use hex_read::DigitTable;
 use spans::{Origin, Span};
 use text::{Step, Taken};
 
@@ -31,15 +31,16 @@ struct Head {
 }
 
 // The origin of the cell at an address: what was found before, or else this data line, if it addresses the cell.
+#[tactic(auto, unfolding(spans::specs::Spans::covers))]
 fn trace(
     format: Format,
-    table: &[u32; 256],
+    table: &DigitTable,
     found: Origin,
     address: u32,
     head: Head,
     chars: &[u8],
 ) -> Origin
-    requires { (table.now ≡ digit_table) × (head.count ≡ length (bytes_in ((format_of format).part chars.now))) }
+    requires { (head.count ≡ length (bytes_in ((format_of format).part chars.now))) }
     ensures { result ≡ or_else found (origin_among address (store_of head (bytes_in ((format_of format).part chars.now)) ∷ [])) }
 {
     if found.ordinal != 0 {
@@ -64,24 +65,16 @@ fn trace(
 pub fn survey_text(format: Format, text: &[u8], address: u32) -> Survey
     ensures { result ≡ survey_of address (plan (format_of format) text.now) }
 {
-    let table = hex_read::digit_table();
+    let table = DigitTable::new();
     let mut state = text::start();
     let mut at: usize = 0;
     let mut span = spans::no_span();
     let mut origin = spans::nowhere();
-    loop {
-        let taken = steps::take_next(format, &table, state, text, at);
-        let Taken::Line { from, to, step } = taken else {
-            return Survey { span, origin };
-        };
+    while let Some(Taken { from, to, step }) = steps::take_next(format, &table, state, text, at) {
         match step {
-            Step::Refuse(_, _, _) => return Survey { span, origin },
-            Step::Finish(_, _) => return Survey { span, origin },
-            Step::Pass(next) => {
-                state = next;
-                at = to;
-                continue;
-            }
+            Step::Refuse(..) => return Survey { span, origin },
+            Step::Finish(..) => return Survey { span, origin },
+            Step::Pass(next) => state = next,
             Step::Put(next, first, count) => {
                 let head = Head {
                     ordinal: next.number,
@@ -92,27 +85,23 @@ pub fn survey_text(format: Format, text: &[u8], address: u32) -> Survey
                 span = spans::widen(span, first as usize, count);
                 origin = trace(format, &table, origin, address, head, &text[from..to]);
                 state = next;
-                at = to;
-                continue;
             }
         }
+        at = to;
     }
+    Survey { span, origin }
 }
 
 // The lowest and the highest address that the data records of a text address.
 pub fn span_of(format: Format, text: &[u8]) -> Span
     ensures { result ≡ span_of (plan (format_of format) text.now) }
 {
-    let found = survey_text(format, text, 0);
-    let span = found.span;
-    span
+    survey_text(format, text, 0).span
 }
 
 // The first record of a text that addresses a cell, and the byte that it has for it.
 pub fn origin_of(format: Format, text: &[u8], address: u32) -> Origin
     ensures { result ≡ origin_of address (plan (format_of format) text.now) }
 {
-    let found = survey_text(format, text, address);
-    let origin = found.origin;
-    origin
+    survey_text(format, text, address).origin
 }

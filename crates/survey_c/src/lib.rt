@@ -25,11 +25,11 @@ pub extern "C" fn srec_span(format: u32, text: &[u8]) -> Reach
     ensures { result ≡ reach_of (span_of (plan (format_of (format_for format)) text.now)) }
 {
     let choice = c_answers::format_for(format);
-    let span = survey::span_of(choice, text);
-    c_answers::reach_of(span)
+    c_answers::reach_of(survey::span_of(choice, text))
 }
 
 // The first record of a text that addresses a cell.
+#[tactic(auto, unfolding(crate::specs::Told::source_of))]
 #[unsafe(no_mangle)]
 pub extern "C" fn srec_where(format: u32, text: &[u8], address: u32) -> Source
     ensures { result ≡ source_of (origin_of address (plan (format_of (format_for format)) text.now)) }
@@ -39,6 +39,6 @@ pub extern "C" fn srec_where(format: u32, text: &[u8], address: u32) -> Source
     Source {
         ordinal: origin.ordinal,
         place: origin.place,
-        byte: origin.byte as u32,
+        byte: u32::from(origin.byte),
     }
 }

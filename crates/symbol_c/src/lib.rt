@@ -12,7 +12,6 @@ ghost use Rattle.c_answers.specs.Answers.{answer_of, reach_of};
 ghost use Rattle.symbol_c.specs.Rests.{behind};
 
 use c_answers::{Answer, Reach};
-use symbols::Block;
 
 // Loads the S-records behind a text's symbol block.
 #[unsafe(no_mangle)]
@@ -61,9 +60,8 @@ pub extern "C" fn srec_span_sheet(text: &[u8], sheet: &[u8]) -> Reach
 pub extern "C" fn srec_behind(text: &[u8]) -> usize
     ensures { result ≡ behind text.now (block_of text.now) }
 {
-    let block = symbols::read_block(text);
-    match block {
-        Block::Bad { .. } => text.len(),
-        Block::Table { to, .. } => to + 2,
+    match symbols::read_block(text) {
+        Err(_) => text.len(),
+        Ok(table) => table.to + 2,
     }
 }

@@ -1,9 +1,8 @@
 -- One line of a symbol block (Req 13), and row 22 of a line of pairs; the block's other rows are in symbols `Blocks`.
-use Rattle.std.specs.Prelude.{ℕ, zero, suc, ◌-◌, ◌/◌, Bool, true, false, cond, not, List, [], ◌∷◌, length, get_or}
+use Rattle.std.specs.Prelude.{ℕ, zero, suc, ◌-◌, ◌/◌, Bool, true, false, cond, not, List, [], ◌∷◌, length, get_or, Option, Some, None}
 use Rattle.lists.specs.Characters.{char}
 use Rattle.text.specs.Lines.{Line, lines}
 use Rattle.words.specs.Words.{is_blank, is_name, is_number, same}
-use Rattle.symbol_lines.specs.declared.Pairs.{Pairs}
 
 -- "one or more spaces between parts and nowhere else": none at either end
 unfoldable pub tight : List ℕ → Bool
@@ -51,6 +50,6 @@ row22 chars = not (cond (tight chars) (paired 4 (parts_of chars)) false)
 unfoldable pub symbol_count : List ℕ → ℕ
 symbol_count chars = length (parts_of chars) / 2
 
--- is it a line of pairs, and of how many
-unfoldable pub pairs_of : List ℕ → Pairs
-pairs_of chars = cond (row22 chars) (record { good = false; count = 0 }) (record { good = true; count = symbol_count chars })
+-- how many pairs a line of pairs has
+unfoldable pub pairs_of : List ℕ → Option ℕ
+pairs_of chars = cond (row22 chars) None (Some (symbol_count chars))

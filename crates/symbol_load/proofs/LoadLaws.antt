@@ -1,10 +1,11 @@
 -- A load behind a symbol block: what a refusal leaves, and what a good block leads to.
 use mathlib.Core.Path.{◌≡◌, sym, ap, ◌∙◌}
-use Prim.Native.Nat.{ℕ, ◌+◌}
+use Prim.Native.Nat.{ℕ, ◌+◌, ◌-◌}
 use mathlib.Core.Bool.{Bool, true, false, not}
 use mathlib.Core.List.{List}
-use lib.ListN.{length, drop, replicate}
+use lib.ListN.{length, take, drop, replicate}
 use borrow.Author.Tests.{not-true, not-false}
+use Rattle.lists.proofs.PartLaws.{rest}
 use Rattle.lists.proofs.TestLaws.{by_test}
 use Rattle.window.specs.declared.Refusal.{Refusal}
 use Rattle.window.specs.Windows.{Window, row1}
@@ -16,8 +17,8 @@ use Rattle.marks.proofs.RowLaws.{row_1_bytes}
 use Rattle.text.specs.Formats.{plan}
 use Rattle.text.specs.Load.{load, memory_after, marks_after}
 use Rattle.srec.specs.Formats.{srec}
-use Rattle.symbols.specs.declared.Block.{Block}
-use Rattle.symbols.specs.declared.Block.TheVariants.{Bad, Table}
+use Rattle.std.specs.Prelude.{Result, Ok, Err}
+use Rattle.symbols.specs.declared.Table.{Table}
 use Rattle.symbols.specs.Blocks.{block_of}
 use Rattle.symbol_load.specs.Loads.{row1_or, rest_of, load_behind}
 
@@ -41,12 +42,14 @@ module _ (W : Window) (f : Refusal) where
 -- ---- the block decides
 
 module _ (W : Window) (text : List ℕ) where
-  pub behind_bad : (reason n at : ℕ) → Bad reason n at ≡ block_of text → row1_or W (refused (refusal reason n at)) ≡ load_behind W text
+  pub behind_bad : (f : Refusal) → Err f ≡ block_of text → row1_or W (refused f) ≡ load_behind W text
   unfolding load_behind
-  behind_bad reason n at e = ap (λ (b : Block). row1_or W (rest_of W text b)) e
+  behind_bad f e = ap (λ (b : Result Table Refusal). row1_or W (rest_of W text b)) e
 
   -- a load has row 1 first by itself
-  pub behind_table : (from to : ℕ) → Table from to ≡ block_of text → load W (plan srec (drop (to + 2) text)) ≡ load_behind W text
+  pub behind_table : (t : Table) → Ok t ≡ block_of text
+      → load W (plan srec (take (length text - (t.to + 2)) (drop (t.to + 2) text))) ≡ load_behind W text
   unfolding load_behind load
-  behind_table from to e =
-      by_test (row1 W) (λ r. rw r) (λ r. rw r) ∙ ap (λ (b : Block). row1_or W (rest_of W text b)) e
+  behind_table t e =
+      ap (λ (x : List ℕ). load W (plan srec x)) (rest (t.to + 2) text) ∙ by_test (row1 W) (λ r. rw r) (λ r. rw r)
+      ∙ ap (λ (b : Result Table Refusal). row1_or W (rest_of W text b)) e

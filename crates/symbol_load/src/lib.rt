@@ -8,8 +8,10 @@ ghost use Rattle.text.specs.Load.{load_answer, memory_after, marks_after};
 ghost use Rattle.symbol_load.specs.Loads.{row1_or, load_behind};
 
 use marks::Form;
-use symbols::Block;
 use window::{Loaded, Refusal};
+
+// A block's last line, `$$`, has so many characters.
+const LAST: usize = 2;
 
 // The answer of a call that is refused, by row 1 or else as it is told. All marks are set to zero.
 pub fn decline(refusal: Refusal, base: u32, memory: &[u8], marks: &mut [u8]) -> Loaded
@@ -31,19 +33,8 @@ pub fn load_behind(text: &[u8], base: u32, memory: &mut [u8], marks: &mut [u8]) 
     ensures memory { memory.new ≡ memory_after memory.old (load_behind (window_of base memory.old marks.old) text.now) }
     ensures marks { marks.new ≡ marks_after marks.old (load_behind (window_of base memory.old marks.old) text.now) }
 {
-    let block = symbols::read_block(text);
-    match block {
-        Block::Bad {
-            reason,
-            ordinal,
-            place,
-        } => {
-            let refusal = window::refuse(reason, ordinal, place);
-            return decline(refusal, base, memory, marks);
-        }
-        Block::Table { to, .. } => {
-            let rest = to + 2;
-            return load::load(&text[rest..], base, memory, marks);
-        }
+    match symbols::read_block(text) {
+        Err(refusal) => decline(refusal, base, memory, marks),
+        Ok(table) => load::load(&text[table.to + LAST..], base, memory, marks),
     }
 }

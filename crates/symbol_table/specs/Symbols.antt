@@ -1,8 +1,8 @@
 -- Symbols and their table: a stretch of a symbol block, its words being names and numbers in turn (Req 13).
+use Rattle.std.specs.Prelude as Rust
 use Rattle.std.specs.Prelude.{ℕ, Bool, true, false, cond, List, [], ◌∷◌, drop}
 use Rattle.std.proofs.Math.Option.{Option, none, some}
 use Rattle.text.specs.Lines.{Line, lines}
-use Rattle.symbol_table.specs.declared.Sought.{Sought}
 use Rattle.words.specs.Words.{is_blank, number_in, same}
 
 -- a name, and what it stands for
@@ -30,7 +30,7 @@ abbrev pub is_some : Option ℕ → Bool
 is_some none = false
 is_some (some v) = true
 
--- what `find` answers: is it known, and its value, or 0
-abbrev pub sought : Option ℕ → Sought
-sought none = record { known = false; value = 0 }
-sought (some v) = record { known = true; value = v }
+-- that in Rust's `Option`
+abbrev pub sought : Option ℕ → Rust.Option ℕ
+sought none = Rust.None
+sought (some v) = Rust.Some v

@@ -9,11 +9,14 @@
 #![tactic(auto)]
 
 ghost use Rattle.std.specs.Prelude.{◌≡◌, ◌≤◌, ◌<◌, length, IfOk};
-ghost use Rattle.hex_digits.specs.Tables.{digit_table};
 
+use hex_read::DigitTable;
 use std::io;
 use std::io::{BufWriter, Write};
 use window::Loaded;
+
+// A heading has so many characters before its name.
+const HEADING: usize = 28;
 
 // A memory or marks have at most so many bytes: a line has no more.
 const ROOM: usize = 1024;
@@ -23,37 +26,31 @@ const SHEET: usize = 65536;
 
 // Loads the text of a case, or the sheet behind it.
 fn load_case(
-    table: &[u32; 256],
+    table: &DigitTable,
     text: &[u8],
     base: u32,
     memory: &mut [u8],
     marks: &mut [u8],
-) -> Loaded
-    requires { table.now ≡ digit_table }
-{
-    let cut = printing::count_before(b'~', text);
-    if cut == text.len() {
+) -> Loaded {
+    let Some(cut) = text.iter().position(|c| *c == b'~') else {
         return symbol_load::load_behind(text, base, memory, marks);
-    }
-    let from = cut + 1;
+    };
     let mut sheet = [0u8; SHEET];
-    let n = printing::bytes_in(table, &text[from..], &mut sheet);
+    let n = printing::bytes_in(table, &text[cut + 1..], &mut sheet);
     sheet_load::load_sheet(&text[..cut], &sheet[..n], base, memory, marks)
 }
 
 // Loads into a window, and prints the answer, memory and marks.
 fn run_load<W: Write>(
     out: &mut W,
-    table: &[u32; 256],
+    table: &DigitTable,
     text: &[u8],
     base: u32,
     memory: &mut [u8],
     marks: &mut [u8],
-) -> io::Result<()>
-    requires { table.now ≡ digit_table }
-{
-    mark_bytes::fill(memory, 0xA5);
-    mark_bytes::fill(marks, 0xFF);
+) -> io::Result<()> {
+    memory.fill(0xA5);
+    marks.fill(0xFF);
     let loaded = load_case(table, text, base, memory, marks);
     printing::print_answer(out, loaded)?;
     printing::print_bytes(out, "memory ", memory)?;
@@ -63,16 +60,15 @@ fn run_load<W: Write>(
 // Runs a text in the window that its heading gives.
 fn run_window<W: Write>(
     out: &mut W,
-    table: &[u32; 256],
+    table: &DigitTable,
     heading: &[u8],
     text: &[u8],
 ) -> io::Result<()>
-    requires table { table.now ≡ digit_table }
     requires heading { 28 ≤ length heading.now }
 {
-    let base = hex_read::number_of(table, &heading[1..9]);
-    let cells = hex_read::number_of(table, &heading[10..18]) as usize;
-    let marked = hex_read::number_of(table, &heading[19..27]) as usize;
+    let base = table.number_of(&heading[1..9]);
+    let cells = table.number_of(&heading[10..18]) as usize;
+    let marked = table.number_of(&heading[19..27]) as usize;
     if cells > ROOM {
         return writeln!(out, "too many cells");
     }
@@ -92,14 +88,13 @@ fn run_window<W: Write>(
 }
 
 // Runs the first of some cases and returns how many characters it has.
-fn run_case<W: Write>(out: &mut W, table: &[u32; 256], cases: &[u8]) -> io::Result<usize>
-    requires table { table.now ≡ digit_table }
+fn run_case<W: Write>(out: &mut W, table: &DigitTable, cases: &[u8]) -> io::Result<usize>
     requires some { 0 < length cases.now }
     ensures some { IfOk result (λ n. 0 < n) }
     ensures within { IfOk result (λ n. n ≤ length cases.now) }
 {
     let end = printing::count_before(b'\n', cases);
-    if end < 28 {
+    if end < HEADING {
         writeln!(out, "bad heading")?;
         return Ok(cases.len());
     }
@@ -116,10 +111,11 @@ fn run_case<W: Write>(out: &mut W, table: &[u32; 256], cases: &[u8]) -> io::Resu
 
 // Runs all cases.
 fn run_cases<W: Write>(out: &mut W, cases: &[u8]) -> io::Result<()> {
-    let table = hex_read::digit_table();
-    let mut at: usize = 0;
-    while at < cases.len() {
-        at += run_case(out, &table, &cases[at..])?;
+    let table = DigitTable::new();
+    let mut rest = cases;
+    while !rest.is_empty() {
+        let n = run_case(out, &table, rest)?;
+        rest = &rest[n..];
     }
     Ok(())
 }

@@ -1,27 +1,26 @@
 -- The lines of a symbol block, as `read_block` comes to them: a law for each way out, and for a turn of the loop.
-use mathlib.Core.Path.{◌≡◌, refl, sym, ap, subst, ◌∙◌}
+use mathlib.Core.Path.{◌≡◌, refl, sym, ap, ◌∙◌}
 use Prim.Native.Nat.{ℕ, suc, ◌+◌, ◌-◌, ◌≤◌, ◌<◌}
 use native.Mathlib.Numerals.{add-one}
 use native.Mathlib.Omega.{arith}
-use borrow.Author.Tests.{lt-ltb, le-ltb, ltb-false, eq-eqb, ne_eqb}
-use mathlib.Core.Bool.{Bool, true, false}
+use borrow.Author.Tests.{lt-ltb, le-ltb, eq-eqb, ne_eqb}
+use mathlib.Core.Bool.{true, false}
 use mathlib.Core.List.{List, [], ◌∷◌}
-use lib.Dec.{eqb, ltb}
+use lib.Dec.{eqb}
 use lib.ListN.{length, drop, length-take, length-drop}
+use Rattle.std.specs.Prelude.{Some, None, Result}
 use Rattle.lists.proofs.TestLaws.{by_test}
+use Rattle.window.specs.declared.Refusal.{Refusal}
+use Rattle.text.specs.declared.Found.{Found}
 use Rattle.text.specs.Lines.{Line, lines}
-use Rattle.text.proofs.FindLaws.{part, Next}
+use Rattle.text.specs.Finds.{found}
+use Rattle.text.proofs.FindLaws.{part, Next, next_is, next_none}
 use Rattle.words.specs.Words.{is_break, same}
-use Rattle.words.proofs.SameLaws.{never}
-use Rattle.symbols.specs.declared.Block.{Block}
-use Rattle.symbols.specs.declared.Block.TheVariants.{Bad, Table}
-use Rattle.symbol_lines.specs.declared.Pairs.{Pairs}
+use Rattle.symbols.specs.declared.Table.{Table}
+use Rattle.symbols.specs.declared.Fault.{Fault}
+use Rattle.symbols.specs.declared.Fault.TheVariants.{Unpaired, Twice, Full}
 use Rattle.symbol_lines.specs.Lines.{dollars, is_last, is_title, row22, symbol_count, pairs_of}
-use Rattle.symbols.specs.Blocks.{line_at, row23, row24, line_row, walked, block_of, Inside}
-
--- a line ends behind its characters
-pub part_end : {gap : ℕ → Bool} (text : List ℕ) {at from to : ℕ} → Next gap text at from to → from + length (part text from to) ≡ to
-part_end text {at} {from} {to} n = rw (length-take (to - from) (drop from text)) (omega (arith, length-drop from text, n.some_chars, n.high))
+use Rattle.symbols.specs.Blocks.{bad, table, line_at, row_of, row23, row24, line_row, walked, block_of}
 
 -- the bare `$$` has two characters
 pub last_long : (chars : List ℕ) → is_last chars ≡ true → length chars ≡ 2
@@ -34,68 +33,55 @@ last_long chars e = go chars dollars e
     go (x ∷ xs) [] h = absurd (let z : ◌≡◌ {A = ℕ} 0 1 = cc in omega arith)
     go (x ∷ xs) (y ∷ ys) h = by_test (eqb x y) (λ q. ap suc (go xs ys (rw q at h))) (λ q. absurd (let w = rw q at h in let z : ◌≡◌ {A = ℕ} 0 1 = cc in omega arith))
 
--- a refused block has no table
-pub refused_inside : (text : List ℕ) (b : Block) {reason n at : ℕ} → b ≡ Bad reason n at → Inside text b
-refused_inside text b e = subst (Inside text) (sym e) tt
+-- ---- the rows of a line
 
--- ---- what the count of a line's pairs says of its rows
+-- a line that is none of pairs, and one that is
+none_22 : (chars : List ℕ) → None ≡ pairs_of chars → row22 chars ≡ true
+unfolding pairs_of
+none_22 chars q = by_test (row22 chars) (λ r. r) (λ r. absurd (let w = rw r at q in let z : ◌≡◌ {A = ℕ} 0 1 = cc in omega arith))
 
-module _ (chars : List ℕ) (p : Pairs) (q : p ≡ pairs_of chars) where
-  pub good_22 : p.good ≡ true → row22 chars ≡ false
-  unfolding pairs_of
-  good_22 e = by_test (row22 chars) (λ r. absurd (never (sym e ∙ ap (λ (x : Pairs). x.good) (rw r at q)))) (λ r. r)
+some_22 : (chars : List ℕ) (count : ℕ) → Some count ≡ pairs_of chars → (row22 chars ≡ false) × (count ≡ symbol_count chars)
+unfolding pairs_of
+some_22 chars count q =
+    by_test (row22 chars) (λ r. absurd (let w = rw r at q in let z : ◌≡◌ {A = ℕ} 0 1 = cc in omega arith))
+    (λ r. (r, let w : Some count ≡ Some (symbol_count chars) = rw r at q in cc))
 
-  pub bad_22 : p.good ≡ false → row22 chars ≡ true
-  unfolding pairs_of
-  bad_22 e = by_test (row22 chars) (λ r. r) (λ r. absurd (never (sym (ap (λ (x : Pairs). x.good) (rw r at q)) ∙ e)))
-
-  pub count_is : row22 chars ≡ false → p.count ≡ symbol_count chars
-  unfolding pairs_of
-  count_is e = ap (λ (x : Pairs). x.count) (rw e at q)
-
--- ---- the rows of a line, one law for each way out
-
-module _ (text : List ℕ) (begin n : ℕ) (l : Line) (p : Pairs) (q : p ≡ pairs_of l.chars) where
-  pub line_22 : p.good ≡ false → 22 ≡ line_row text begin n l
+module _ (text : List ℕ) (begin n : ℕ) (l : Line) where
+  pub line_22 : None ≡ pairs_of l.chars → line_row text begin n l ≡ 22
   unfolding line_row
-  line_22 e = rw (bad_22 l.chars p q e)
+  line_22 q = rw (none_22 l.chars q)
 
-  module _ (e : p.good ≡ true) where
-    fine : row22 l.chars ≡ false
-    fine = good_22 l.chars p q e
+  module _ (count : ℕ) (q : Some count ≡ pairs_of l.chars) where
+    pub line_count : count ≡ symbol_count l.chars
+    line_count = (some_22 l.chars count q).1
 
-    pub line_23 : row23 text begin l ≡ true → 23 ≡ line_row text begin n l
+    pub line_23 : row23 text begin l ≡ true → line_row text begin n l ≡ 23
     unfolding line_row
-    line_23 a = rw (fine, a)
+    line_23 a = rw ((some_22 l.chars count q).0, a)
 
-    module _ (a : row23 text begin l ≡ false) where
-      pub line_24 : 1024 < n + p.count → 24 ≡ line_row text begin n l
-      unfolding line_row row24
-      line_24 m =
-          let h : 1024 < n + symbol_count l.chars = omega (arith, count_is l.chars p q fine) in
-          rw (fine, a, lt-ltb 1024 (n + symbol_count l.chars) h)
+    pub line_24 : row23 text begin l ≡ false → 1024 < n + count → line_row text begin n l ≡ 24
+    unfolding line_row row24
+    line_24 a m = rw ((some_22 l.chars count q).0, a, lt-ltb 1024 (n + symbol_count l.chars) (omega (arith, line_count)))
 
-      pub line_none : n + p.count ≤ 1024 → 0 ≡ line_row text begin n l
-      unfolding line_row row24
-      line_none m =
-          let h : n + symbol_count l.chars ≤ 1024 = omega (arith, count_is l.chars p q fine) in
-          rw (fine, a, le-ltb 1024 (n + symbol_count l.chars) h)
+    pub line_none : row23 text begin l ≡ false → n + count ≤ 1024 → line_row text begin n l ≡ 0
+    unfolding line_row row24
+    line_none a m = rw ((some_22 l.chars count q).0, a, le-ltb 1024 (n + symbol_count l.chars) (omega (arith, line_count)))
 
-  -- a line without a row has pairs, and they have room
-  pub line_inv : line_row text begin n l ≡ 0 → (p.count ≡ symbol_count l.chars) × (n + p.count ≤ 1024)
-  unfolding line_row row24
-  line_inv z =
-      by_test (row22 l.chars) (λ r. absurd (let w : 22 ≡ 0 = rw r at z in omega arith))
-      (λ r. by_test (row23 text begin l) (λ s. absurd (let w : 23 ≡ 0 = rw (r, s) at z in omega arith))
-      (λ s. by_test (ltb 1024 (n + symbol_count l.chars)) (λ t. absurd (let w : 24 ≡ 0 = rw (r, s, t) at z in omega arith))
-      (λ t. let c = count_is l.chars p q r in (c, omega (arith, c, ltb-false 1024 (n + symbol_count l.chars) t)))))
+-- a fault has a row
+pub row_some : (fault : Fault) → row_of fault ≡ 0 → ⊥
+row_some Unpaired e = omega arith
+row_some Twice e = omega arith
+row_some Full e = omega arith
 
 -- ---- the lines behind the title
 
 module _ (text : List ℕ) (begin : ℕ) where
-  -- what they come to
-  abbrev pub Whole : Block
-  Whole = walked text begin 1 0 (lines is_break begin (drop begin text))
+  -- the lines from a place on, and what they come to behind the title
+  abbrev rest : ℕ → List Line
+  rest at = lines is_break at (drop at text)
+
+  abbrev pub Whole : Result Table Refusal
+  Whole = walked text begin 1 0 (rest begin)
 
   -- the loop's invariant: k lines and n symbols were read, and what is left gives the whole
   pub record Going (at k n : ℕ) : Type 0 where
@@ -103,61 +89,66 @@ module _ (text : List ℕ) (begin : ℕ) where
     pub high : at ≤ length text
     pub lines_read : k ≤ at
     pub few : n ≤ 1024
-    pub is : walked text begin k n (lines is_break at (drop at text)) ≡ Whole
+    pub is : walked text begin k n (rest at) ≡ Whole
 
   pub going_start : 0 < begin → begin ≤ length text → Going begin 1 0
   going_start h l = record { low = omega arith; high = l; lines_read = h; few = omega arith; is = refl }
 
   module _ {at k n : ℕ} (g : Going at k n) where
     -- no bare `$$`
-    pub block_open : lines is_break at (drop at text) ≡ [] → Bad 22 k (length text) ≡ Whole
-    block_open e = rw e at g.is
+    pub block_open : None ≡ found (rest at) → bad 22 k (length text) ≡ Whole
+    block_open q = rw (next_none is_break text at q) at g.is
 
-    module _ {place end : ℕ} (w : Next is_break text at place end) where
+    module _ (w : Found) (q : Some w ≡ found (rest at)) where
+      line : Next is_break text at w.from w.to
+      line = next_is is_break text at w.from w.to g.high q
+
       -- the bare `$$`
-      pub block_table : is_last (part text place end) ≡ true → Table begin place ≡ Whole
-      block_table e = rw (w.is, e) at g.is
+      pub block_table : is_last (part text w.from w.to) ≡ true → table begin w.from ≡ Whole
+      block_table e = rw (line.is, e) at g.is
 
-      module _ (e : is_last (part text place end) ≡ false) (row : ℕ) (r : row ≡ line_row text begin n (line_at text place end)) where
+      module _ (e : is_last (part text w.from w.to) ≡ false) where
         -- rows 22 to 24
-        pub block_bad : (row ≡ 0 → ⊥) → Bad row (k + 1) place ≡ Whole
-        block_bad z = rw (add-one, r) (rw (w.is, e, ne_eqb (line_row text begin n (line_at text place end)) 0 (λ y. z (r ∙ y))) at g.is)
+        pub block_bad : (row : ℕ) → line_row text begin n (line_at text w.from w.to) ≡ row → (row ≡ 0 → ⊥) → bad row (k + 1) w.from ≡ Whole
+        block_bad row r z = rw (add-one, ← r) (rw (line.is, e, ne_eqb (line_row text begin n (line_at text w.from w.to)) 0 (λ y. z (sym r ∙ y))) at g.is)
 
         -- a line more
-        pub block_on : row ≡ 0 → (p : Pairs) → p ≡ pairs_of (part text place end) → Going end (k + 1) (n + p.count)
-        block_on z p q =
+        pub block_on : line_row text begin n (line_at text w.from w.to) ≡ 0 → (count : ℕ) → count ≡ symbol_count (part text w.from w.to)
+            → n + count ≤ 1024 → Going w.to (k + 1) (n + count)
+        block_on z count c room =
             record {
-              low = omega (arith, g.low, w.low, w.some_chars);
-              high = w.high;
-              lines_read = omega (arith, g.lines_read, w.low, w.some_chars);
-              few = v.1;
-              is = rw (add-one, v.0) (rw (w.is, e, eq-eqb (line_row text begin n (line_at text place end)) 0 y) at g.is);
+              low = omega (arith, g.low, line.low, line.some_chars);
+              high = line.high;
+              lines_read = omega (arith, g.lines_read, line.low, line.some_chars);
+              few = room;
+              is = rw (add-one, c) (rw (line.is, e, eq-eqb (line_row text begin n (line_at text w.from w.to)) 0 z) at g.is);
             }
-          where
-            y : line_row text begin n (line_at text place end) ≡ 0
-            y = sym r ∙ z
-
-            v : (p.count ≡ symbol_count (part text place end)) × (n + p.count ≤ 1024)
-            v = line_inv text begin n (line_at text place end) p q y
 
 -- ---- the title
 
 module _ (text : List ℕ) where
   -- no line at all
-  pub block_empty : lines is_break 0 text ≡ [] → Bad 22 0 (length text) ≡ block_of text
+  pub block_empty : None ≡ found (lines is_break 0 text) → bad 22 0 (length text) ≡ block_of text
   unfolding block_of
-  block_empty e = rw e
+  block_empty q = let e : lines is_break 0 text ≡ [] = next_none is_break text 0 q in rw e
 
-  module _ {place end : ℕ} (t : Next is_break text 0 place end) where
-    first : lines is_break 0 text ≡ line_at text place end ∷ lines is_break end (drop end text)
-    first = t.is
+  module _ (t : Found) (q : Some t ≡ found (lines is_break 0 text)) where
+    title : Next is_break text 0 t.from t.to
+    title = next_is is_break text 0 t.from t.to (omega arith) q
+
+    first : lines is_break 0 text ≡ line_at text t.from t.to ∷ lines is_break t.to (drop t.to text)
+    first = title.is
+
+    -- a line ends behind its characters
+    ends : t.from + length (part text t.from t.to) ≡ t.to
+    ends = rw (length-take (t.to - t.from) (drop t.from text)) (omega (arith, length-drop t.from text, title.some_chars, title.high))
 
     -- the first line is no title
-    pub block_untitled : is_title (part text place end) ≡ false → Bad 22 1 place ≡ block_of text
+    pub block_untitled : is_title (part text t.from t.to) ≡ false → bad 22 1 t.from ≡ block_of text
     unfolding block_of
     block_untitled e = rw (first, e)
 
     -- it is one
-    pub block_titled : is_title (part text place end) ≡ true → Whole text end ≡ block_of text
+    pub block_titled : is_title (part text t.from t.to) ≡ true → Whole text t.to ≡ block_of text
     unfolding block_of
-    block_titled e = rw (first, e, part_end text t)
+    block_titled e = rw (first, e, ends)

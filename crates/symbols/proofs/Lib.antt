@@ -1,2 +1,2 @@
 mod AgainLaws
-pub mod BlockLaws
+mod BlockLaws

@@ -1,64 +1,64 @@
 -- Worked examples of symbol blocks, as one table under one statement.
-use Rattle.std.specs.Prelude.{Bool, true, false, not, ◌&&◌, List, [], ◌∷◌, ◌++◌, ℕ, T, eqb}
+use Rattle.std.specs.Prelude.{Bool, true, false, not, ◌&&◌, List, [], ◌∷◌, ◌++◌, ℕ, T, eqb, Result, Ok, Err}
 use Rattle.std.proofs.Math.Option.{Option, none, some}
 use Prim.Native.String.{String}
 use Rattle.lists.specs.Characters.{codes}
 use Rattle.hex_digits.specs.Digits.{between, is_hex, value}
 use Rattle.words.specs.Words.{is_letter, is_alnum, is_blank, is_break, counted, all_of, number_in, is_name, is_number}
 use Rattle.symbol_table.specs.Symbols.{symbols_in, meaning, is_some}
-use Rattle.symbols.specs.declared.Block.{Block}
-use Rattle.symbols.specs.declared.Block.TheVariants.{Bad, Table}
+use Rattle.window.specs.declared.Refusal.{Refusal}
+use Rattle.symbols.specs.declared.Table.{Table}
 use Rattle.symbol_lines.specs.Lines.{tight, parts_of, is_last, is_title, is_pair, row22, symbol_count}
-use Rattle.symbols.specs.Blocks.{row23, row24, line_row, block_of}
+use Rattle.symbols.specs.Blocks.{bad, table, row23, row24, line_row, block_of}
 
 -- a text, and its block
 pub record Case : Type 0 where
   pub text : String
-  pub block : Block
+  pub block : Result Table Refusal
 
-abbrev case : String → Block → Case
+abbrev case : String → Result Table Refusal → Case
 case text block = record { text = text; block = block }
 
 abbrev pub cases : List Case
 cases =
-    case "$$ M\nstart $10\n$$\nS9" (Table 4 15)
-    ∷ case "$$ M\r\n\r\na $1 b  $2 c $3   d $4\r\n$$" (Table 4 32)
-    ∷ case "\n\n$$   M\n$$" (Table 8 9)
-    ∷ case "$$ M\na $fF b $0000010A\n$$" (Table 4 23)
-    ∷ case "" (Bad 22 0 0)
-    ∷ case "\n\n" (Bad 22 0 2)
-    ∷ case "$$ M\n  \n$$" (Bad 22 2 5)
-    ∷ case "$$ M2345678901234567\n$$" (Bad 22 1 0)
-    ∷ case "$$ M" (Bad 22 1 4)
-    ∷ case "$$ M\na $1" (Bad 22 2 9)
-    ∷ case "$$" (Bad 22 1 0)
-    ∷ case "$$ 1M\n$$" (Bad 22 1 0)
-    ∷ case " $$ M\n$$" (Bad 22 1 0)
-    ∷ case "$$ M \n$$" (Bad 22 1 0)
-    ∷ case "$$ M N\n$$" (Bad 22 1 0)
-    ∷ case "$$ M\n$$ \n$$" (Bad 22 2 5)
-    ∷ case "$$ M\n$$ N\n$$" (Bad 22 2 5)
-    ∷ case "$$ M\na\n$$" (Bad 22 2 5)
-    ∷ case "$$ M\na $1 b\n$$" (Bad 22 2 5)
-    ∷ case "$$ M\na $\n$$" (Bad 22 2 5)
-    ∷ case "$$ M\na $123456789\n$$" (Bad 22 2 5)
-    ∷ case "$$ M\na 1\n$$" (Bad 22 2 5)
-    ∷ case "$$ M\na\t$1\n$$" (Bad 22 2 5)
-    ∷ case "$$ M\na2345678901234567 $1\n$$" (Bad 22 2 5)
-    ∷ case "$$ M\na234567890123456 $12345678\n$$" (Table 4 32)
-    ∷ case "$$ M\na $1 b $2 c $3 d $4 e $5\n$$" (Bad 22 2 5)
-    ∷ case "$$ M\na $1\na $1\n$$" (Bad 23 3 10)
-    ∷ case "$$ M\na $1\nb $2 a $3\n$$" (Bad 23 3 10)
-    ∷ case "$$ M\na $1 a $1\n$$" (Bad 23 2 5)
-    ∷ case "$$ M\na $1\na $1 b\n$$" (Bad 22 3 10)
-    ∷ case "$$ M\na $1\nA $1\nM $1\n$$" (Table 4 20)
+    case "$$ M\nstart $10\n$$\nS9" (table 4 15)
+    ∷ case "$$ M\r\n\r\na $1 b  $2 c $3   d $4\r\n$$" (table 4 32)
+    ∷ case "\n\n$$   M\n$$" (table 8 9)
+    ∷ case "$$ M\na $fF b $0000010A\n$$" (table 4 23)
+    ∷ case "" (bad 22 0 0)
+    ∷ case "\n\n" (bad 22 0 2)
+    ∷ case "$$ M\n  \n$$" (bad 22 2 5)
+    ∷ case "$$ M2345678901234567\n$$" (bad 22 1 0)
+    ∷ case "$$ M" (bad 22 1 4)
+    ∷ case "$$ M\na $1" (bad 22 2 9)
+    ∷ case "$$" (bad 22 1 0)
+    ∷ case "$$ 1M\n$$" (bad 22 1 0)
+    ∷ case " $$ M\n$$" (bad 22 1 0)
+    ∷ case "$$ M \n$$" (bad 22 1 0)
+    ∷ case "$$ M N\n$$" (bad 22 1 0)
+    ∷ case "$$ M\n$$ \n$$" (bad 22 2 5)
+    ∷ case "$$ M\n$$ N\n$$" (bad 22 2 5)
+    ∷ case "$$ M\na\n$$" (bad 22 2 5)
+    ∷ case "$$ M\na $1 b\n$$" (bad 22 2 5)
+    ∷ case "$$ M\na $\n$$" (bad 22 2 5)
+    ∷ case "$$ M\na $123456789\n$$" (bad 22 2 5)
+    ∷ case "$$ M\na 1\n$$" (bad 22 2 5)
+    ∷ case "$$ M\na\t$1\n$$" (bad 22 2 5)
+    ∷ case "$$ M\na2345678901234567 $1\n$$" (bad 22 2 5)
+    ∷ case "$$ M\na234567890123456 $12345678\n$$" (table 4 32)
+    ∷ case "$$ M\na $1 b $2 c $3 d $4 e $5\n$$" (bad 22 2 5)
+    ∷ case "$$ M\na $1\na $1\n$$" (bad 23 3 10)
+    ∷ case "$$ M\na $1\nb $2 a $3\n$$" (bad 23 3 10)
+    ∷ case "$$ M\na $1 a $1\n$$" (bad 23 2 5)
+    ∷ case "$$ M\na $1\na $1 b\n$$" (bad 22 3 10)
+    ∷ case "$$ M\na $1\nA $1\nM $1\n$$" (table 4 20)
     ∷ []
 
-abbrev agrees : Block → Block → Bool
-agrees (Bad r n p) (Bad s m q) = eqb r s && eqb n m && eqb p q
-agrees (Bad r n p) (Table f t) = false
-agrees (Table f t) (Bad s m q) = false
-agrees (Table f t) (Table g u) = eqb f g && eqb t u
+abbrev agrees : Result Table Refusal → Result Table Refusal → Bool
+agrees (Err f) (Err g) = eqb f.reason g.reason && eqb f.ordinal g.ordinal && eqb f.place g.place
+agrees (Err f) (Ok u) = false
+agrees (Ok t) (Err g) = false
+agrees (Ok t) (Ok u) = eqb t.from u.from && eqb t.to u.to
 
 unfoldable pub all_hold : List Case → Bool
 unfolding between is_hex value is_letter is_alnum is_blank is_break counted all_of number_in is_name is_number symbols_in tight parts_of is_last is_title is_pair row22 symbol_count row23 row24 line_row block_of

@@ -1,42 +1,44 @@
 // The symbol block that a text begins with: its lines in order.
 #![tactic(auto)]
 
-ghost use Rattle.std.specs.Prelude.{◌≡◌, ◌+◌, ◌≤◌, ◌<◌, length, drop};
+ghost use Rattle.std.specs.Prelude.{◌≡◌, ◌+◌, ◌≤◌, ◌<◌, length, drop, IfOk, IfErr};
 ghost use Rattle.text.specs.Lines.{lines};
 ghost use Rattle.words.specs.Words.{is_break};
-ghost use Rattle.symbol_lines.specs.Lines.{parts_of, pairs_of};
-ghost use Rattle.symbols.specs.declared.Block.TheVariants.{Bad};
-ghost use Rattle.symbols.specs.Blocks.{stretch, again, line_at, line_row, walked, block_of, Inside};
+ghost use Rattle.symbol_lines.specs.Lines.{parts_of, symbol_count};
+ghost use Rattle.symbols.specs.Blocks.{stretch, again, line_at, row_of, line_row, walked, block_of};
 
-use symbol_lines::Pairs;
+use symbol_table::{next_line, next_word};
 use text::Found;
+use window::Refusal;
 
 // A block has at most so many symbols.
 const SYMBOLS: usize = 1024;
 
-// A symbol block is refused, by a row, a line's number and a place; or its table stands from one place to another,
-// and the bare `$$` behind it.
+// Where the table of a block stands: from after the title to the bare `$$`.
 #[derive(Clone, Copy)]
-pub enum Block {
-    Bad {
-        reason: u32,
-        ordinal: usize,
-        place: usize,
-    },
-    Table {
-        from: usize,
-        to: usize,
-    },
+pub struct Table {
+    pub from: usize,
+    pub to: usize,
 }
 
-// A refused block.
-fn bad(reason: u32, ordinal: usize, place: usize) -> Block
-    ensures { result ≡ Bad reason ordinal place }
-{
-    Block::Bad {
-        reason,
-        ordinal,
-        place,
+// Why a line of a block is refused: it is not one of pairs, a name is a symbol already, or there are too many symbols.
+#[derive(Clone, Copy)]
+enum Fault {
+    Unpaired,
+    Twice,
+    Full,
+}
+
+impl Fault {
+    // Its row.
+    fn row(self) -> u32
+        ensures { result ≡ row_of self }
+    {
+        match self {
+            Fault::Unpaired => 22,
+            Fault::Twice => 23,
+            Fault::Full => 24,
+        }
     }
 }
 
@@ -45,94 +47,72 @@ fn repeats(text: &[u8], begin: usize, place: usize, line: &[u8]) -> bool
     requires { (begin ≤ place) × (place + length line.now ≤ length text.now) }
     ensures { result ≡ again text.now begin place (parts_of line.now) }
 {
-    let mut at: usize = 0;
-    loop {
-        let first = symbol_table::next_word(line, at);
-        let Found::At { from, to } = first else {
+    let mut at = 0;
+    while let Some(name) = next_word(line, at) {
+        let Some(value) = next_word(line, name.to) else {
             return false;
         };
-        let second = symbol_table::next_word(line, to);
-        let Found::At {
-            from: start,
-            to: end,
-        } = second
-        else {
-            return false;
-        };
-        let found = symbol_table::find(&text[begin..place + from], &line[from..to]);
-        if found.known {
+        let known = symbol_table::find(&text[begin..place + name.from], &line[name.from..name.to]);
+        if known.is_some() {
             return true;
         }
-        at = end;
+        at = value.to;
     }
+    false
 }
 
-// The row that applies to the line from `place` to `end`, which has these pairs, of a block whose table begins at `begin` and has so many
-// symbols before it; 0 for none.
-fn line_row(text: &[u8], begin: usize, place: usize, end: usize, seen: usize, pairs: Pairs) -> u32
-    requires { (begin ≤ place) × (place ≤ end) × (end ≤ length text.now) × (seen ≤ 1024) × (pairs.count ≤ 4) × (pairs ≡ pairs_of (stretch text.now place end)) }
-    ensures { result ≡ line_row text.now begin seen (line_at text.now place end) }
+// How many symbols a line has, of a block whose table begins at `begin` and has so many symbols before it.
+fn symbols_of(text: &[u8], begin: usize, line: Found, seen: usize) -> Result<usize, Fault>
+    requires { (begin ≤ line.from) × (line.from < line.to) × (line.to ≤ length text.now) × (seen ≤ 1024) }
+    ensures count { IfOk result (λ n. (n ≡ symbol_count (stretch text.now line.from line.to)) × (seen + n ≤ 1024)) }
+    ensures fine { IfOk result (λ n. line_row text.now begin seen (line_at text.now line.from line.to) ≡ 0) }
+    ensures row { IfErr result (λ fault. line_row text.now begin seen (line_at text.now line.from line.to) ≡ row_of fault) }
 {
-    if !pairs.good {
-        return 22;
+    let chars = &text[line.from..line.to];
+    let count = symbol_lines::pairs_of(chars).ok_or(Fault::Unpaired)?;
+    if repeats(text, begin, line.from, chars) {
+        return Err(Fault::Twice);
     }
-    if repeats(text, begin, place, &text[place..end]) {
-        return 23;
+    if SYMBOLS < seen + count {
+        return Err(Fault::Full);
     }
-    if SYMBOLS < seen + pairs.count {
-        return 24;
-    }
-    0
+    Ok(count)
 }
 
-// The lines of a block behind its title, which ends at `begin`.
-fn read_lines(text: &[u8], begin: usize) -> Block
+// The lines of a block after its title, which ends at `begin`.
+fn read_lines(text: &[u8], begin: usize) -> Result<Table, Refusal>
     requires { (0 < begin) × (begin ≤ length text.now) }
-    ensures { (result ≡ walked text.now begin 1 0 (lines is_break begin (drop begin text.now))) × Inside text.now result }
+    ensures block { result ≡ walked text.now begin 1 0 (lines is_break begin (drop begin text.now)) }
+    ensures within { IfOk result (λ t. (t.from ≤ t.to) × (t.to + 2 ≤ length text.now)) }
 {
     let mut at = begin;
-    let mut k: usize = 1;
-    let mut n: usize = 0;
-    loop {
-        let next = symbol_table::next_line(text, at);
-        let Found::At {
-            from: place,
-            to: end,
-        } = next
-        else {
-            return bad(22, k, text.len());
-        };
-        if symbol_lines::is_last(&text[place..end]) {
-            return Block::Table {
+    let mut read = 1;
+    let mut seen = 0;
+    while let Some(line) = next_line(text, at) {
+        if symbol_lines::is_last(&text[line.from..line.to]) {
+            return Ok(Table {
                 from: begin,
-                to: place,
-            };
+                to: line.from,
+            });
         }
-        let pairs = symbol_lines::pairs_of(&text[place..end]);
-        let row = line_row(text, begin, place, end, n, pairs);
-        if row != 0 {
-            return bad(row, k + 1, place);
+        match symbols_of(text, begin, line, seen) {
+            Ok(count) => seen += count,
+            Err(fault) => return Err(window::refuse(fault.row(), read + 1, line.from)),
         }
-        n += pairs.count;
-        k += 1;
-        at = end;
+        read += 1;
+        at = line.to;
     }
+    Err(window::refuse(22, read, text.len()))
 }
 
 // The symbol block that a text begins with.
-pub fn read_block(text: &[u8]) -> Block
-    ensures { (result ≡ block_of text.now) × Inside text.now result }
+pub fn read_block(text: &[u8]) -> Result<Table, Refusal>
+    ensures block { result ≡ block_of text.now }
+    ensures within { IfOk result (λ t. (t.from ≤ t.to) × (t.to + 2 ≤ length text.now)) }
 {
-    let first = symbol_table::next_line(text, 0);
-    let Found::At {
-        from: place,
-        to: end,
-    } = first
-    else {
-        return bad(22, 0, text.len());
-    };
-    if !symbol_lines::is_title(&text[place..end]) {
-        return bad(22, 1, place);
+    let title = next_line(text, 0).ok_or(window::refuse(22, 0, text.len()))?;
+    if !symbol_lines::is_title(&text[title.from..title.to]) {
+        return Err(window::refuse(22, 1, title.from));
     }
-    read_lines(text, end)
+    read_lines(text, title.to)
 }

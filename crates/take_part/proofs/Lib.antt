@@ -1,3 +1,2 @@
-pub mod SettleLaws
 pub mod AllowedLaws
 pub mod ReadLaws

@@ -6,6 +6,7 @@ use native.Mathlib.Omega.{arith}
 use mathlib.Core.Bool.{false}
 use mathlib.Core.List.{List, [], ◌∷◌, ◌++◌}
 use lib.ListN.{length, take, drop, length-append, length-take}
+use Rattle.std.specs.Prelude.{Result, Ok, Err}
 use Rattle.window.specs.declared.Refusal.{Refusal}
 use Rattle.window.specs.Plans.{refusal}
 use Rattle.marks.specs.declared.Form.{Form}
@@ -27,7 +28,6 @@ use Rattle.session.specs.declared.Session.{Session}
 use Rattle.session.specs.Sessions.{going_of, status_of}
 use Rattle.session.proofs.SessionLaws.{shows_going, clear_marks}
 use Rattle.part_lines.specs.declared.Rest.{Rest}
-use Rattle.part_lines.specs.declared.Rest.TheVariants.{Refused, From}
 use Rattle.part_lines.specs.Rests.{Few, behind, TidyRest}
 use Rattle.part_lines.proofs.FreeLaws.{front_free}
 use Rattle.part_lines.proofs.TurnLaws.{line_held, turn_of, turn_halts, turn_goes, turn_keeps}
@@ -38,10 +38,6 @@ pub shows : {x y : Stage} {status : Status} {memory marks : List ℕ} → x ≡ 
     → (status ≡ x.status) × ((memory ≡ x.memory) × (marks ≡ x.marks))
 shows e a m k =
     (a ∙ sym (ap (λ (w : Stage). w.status) e), (m ∙ sym (ap (λ (w : Stage). w.memory) e), k ∙ sym (ap (λ (w : Stage). w.marks) e)))
-
--- with the form of a load, which stays
-pub with_form : {A B C D : Type 0} → A × (B × C) → D → A × (B × (C × D))
-with_form t f = (t.0, (t.1.0, (t.1.1, f)))
 
 -- what is known of it
 pub record Reading : Type 0 where
@@ -113,7 +109,7 @@ module _ (p : Reading) where
         empty [] e = refl
         empty (x ∷ l) e = absurd (omega arith)
 
-    pub all_goes : (r : Rest) (header' memory' marks' : List ℕ)
+    pub all_goes : (r : Result Rest Refusal) (header' memory' marks' : List ℕ)
         → fed base (stage (going (fresh (length memory) (s.total + 0) (known_of s.tally s.header))) memory marks) part
         ≡ behind (length memory) s.total header' part r memory' marks'
         → read ≡ behind s.size s.total header' part r memory' marks'
@@ -169,7 +165,7 @@ module _ (p : Reading) where
           )
 
       -- the lines behind it, and what stands behind those
-      pub first_goes : (r : Rest) (header'' memory'' marks'' : List ℕ)
+      pub first_goes : (r : Result Rest Refusal) (header'' memory'' marks'' : List ℕ)
           → fed base (stage (going (fresh (length memory') (s.total + (first + 1)) (known_of y header'))) memory' marks') (drop (first + 1) part)
           ≡ behind (length memory') s.total header'' part r memory'' marks''
           → read ≡ behind s.size s.total header'' part r memory'' marks''
@@ -181,14 +177,14 @@ module _ (p : Reading) where
           ∙ q ∙ ap (λ (n : ℕ). behind n s.total header'' part r memory'' marks'') size
 
 -- the stage behind the lines, as `settle` shows it
-pub settled : (form : Form) (n : ℕ) (w : Stage) (size total : ℕ) (header part : List ℕ) (r : Rest) (memory marks : List ℕ)
+pub settled : (form : Form) (n : ℕ) (w : Stage) (size total : ℕ) (header part : List ℕ) (r : Result Rest Refusal) (memory marks : List ℕ)
     → w ≡ behind size total header part r memory (flags form n marks) → length marks ≡ mark_bytes form n → TidyRest form n r marks
     → (x : Status) (marks' : List ℕ) → x ≡ (behind size total header part r [] marks).status → marks' ≡ (behind size total header part r [] marks).marks
     → (x ≡ (in_form form w).status) × ((memory ≡ (in_form form w).memory) × (marks' ≡ (in_form form w).marks))
 settled form n w size total header part r memory marks e l t x marks' a k = go r e t a k
   where
-    go : (r : Rest) → w ≡ behind size total header part r memory (flags form n marks) → TidyRest form n r marks
+    go : (r : Result Rest Refusal) → w ≡ behind size total header part r memory (flags form n marks) → TidyRest form n r marks
         → x ≡ (behind size total header part r [] marks).status → marks' ≡ (behind size total header part r [] marks).marks
         → (x ≡ (in_form form w).status) × ((memory ≡ (in_form form w).memory) × (marks' ≡ (in_form form w).marks))
-    go (Refused f) e t a k = shows (ap (in_form form) e) a refl (k ∙ sym (clear_marks form n marks l))
-    go (From from y) e t a k = shows (ap (in_form form) e) a refl (k ∙ t.1)
+    go (Err f) e t a k = shows (ap (in_form form) e) a refl (k ∙ sym (clear_marks form n marks l))
+    go (Ok y) e t a k = shows (ap (in_form form) e) a refl (k ∙ t.1)

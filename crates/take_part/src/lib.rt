@@ -11,22 +11,29 @@ ghost use Rattle.session.specs.Sessions.{going_of, status_of};
 ghost use Rattle.part_lines.specs.Rests.{behind, RestIn};
 ghost use Rattle.take_part.specs.Reads.{read_in};
 
+use hex_read::DigitTable;
 use part_lines::Rest;
 use session::Session;
-use tally::Turn;
+use window::Refusal;
 
 // The state behind the lines of a part whose ends stand in it: the characters behind them are held.
-fn settle(session: Session, header: [u8; 252], rest: Rest, part: &[u8], marks: &mut [u8]) -> Session
+fn settle(
+    session: Session,
+    header: [u8; 252],
+    rest: Result<Rest, Refusal>,
+    part: &[u8],
+    marks: &mut [u8],
+) -> Session
     requires { (session.refusal.reason ≡ 0) × (session.total + length part.now < 2 ^ 64) × RestIn part.now rest }
     ensures status { status_of result ≡ (behind session.size session.total header part.now rest [] marks.old).status }
     ensures marks { marks.new ≡ (behind session.size session.total header part.now rest [] marks.old).marks }
     ensures form { result.form ≡ session.form }
 {
     match rest {
-        Rest::Refused(refusal) => return session::halt(session, refusal, marks),
-        Rest::From(from, tally) => {
+        Err(refusal) => session::halt(session, refusal, marks),
+        Ok(Rest { from, tally }) => {
             let s = holding::next_record(session, session.total + from, tally, header);
-            return holding::keep(s, &part[from..]);
+            holding::keep(s, &part[from..])
         }
     }
 }
@@ -46,7 +53,7 @@ pub fn take_fresh(
     ensures marks { marks.new ≡ (read_in session base memory.old marks.old part.now).marks }
     ensures form { result.form ≡ session.form }
 {
-    let table = hex_read::digit_table();
+    let table = DigitTable::new();
     let form = session.form;
     let tally = session.tally;
     let mut header = session.header;
@@ -81,7 +88,7 @@ pub fn take_cut(
     ensures marks { marks.new ≡ (read_in session base memory.old marks.old part.now).marks }
     ensures form { result.form ≡ session.form }
 {
-    let table = hex_read::digit_table();
+    let table = DigitTable::new();
     let form = session.form;
     let total = session.total;
     let tally = session.tally;
@@ -101,8 +108,8 @@ pub fn take_cut(
         marks,
     );
     match turn {
-        Turn::Refused(refusal) => return session::halt(session, refusal, marks),
-        Turn::Next(next) => {
+        Err(refusal) => session::halt(session, refusal, marks),
+        Ok(next) => {
             let rest = part_lines::take_lines(
                 &table,
                 part,
@@ -115,7 +122,7 @@ pub fn take_cut(
                 form,
                 marks,
             );
-            return settle(session, header, rest, part, marks);
+            settle(session, header, rest, part, marks)
         }
     }
 }

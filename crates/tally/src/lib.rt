@@ -2,10 +2,10 @@
 #![tactic(auto)]
 
 ghost use Rattle.std.specs.Prelude.{◌≡◌, false};
-ghost use Rattle.window.specs.declared.Entry.TheVariants.{Absent};
+ghost use Rattle.std.specs.Prelude.{None};
 
 use text::State;
-use window::{Entry, Refusal};
+use window::Entry;
 
 // What the records read so far say: their numbers, the length of the header, and once a terminator was read its entry.
 #[derive(Clone, Copy)]
@@ -16,21 +16,14 @@ pub struct Tally {
     pub entry: Entry,
 }
 
-// What one line comes to: a refusal, or the records with it.
-#[derive(Clone, Copy)]
-pub enum Turn {
-    Refused(Refusal),
-    Next(Tally),
-}
-
 // The records before a terminator.
 pub fn going_on(state: State, head: usize) -> Tally
-    ensures { result ≡ record { state = state; head = head; ended = false; entry = Absent } }
+    ensures { result ≡ record { state = state; head = head; ended = false; entry = None } }
 {
     Tally {
         state,
         head,
         ended: false,
-        entry: Entry::Absent,
+        entry: None,
     }
 }

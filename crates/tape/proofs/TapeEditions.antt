@@ -10,7 +10,7 @@ use borrow.Author.Tests.{eqb-true, not-false, ne_eqb}
 use Rattle.hex_digits.specs.Numbers.{sum}
 use Rattle.lists.proofs.TestLaws.{by_test}
 use Rattle.lists.proofs.ByteLaws.{BytesTake}
-use Rattle.window.specs.declared.Entry.{Entry}
+use Rattle.window.specs.Entries.{Entry}
 use Rattle.window.specs.Windows.{Window}
 use Rattle.window.specs.Images.{Image}
 use Rattle.window.specs.Cells.{Cell, Run, shown}

@@ -8,8 +8,8 @@ use mathlib.Core.Logic.{inl, inr}
 use lib.Dec.{ltb, eqb}
 use lib.ListN.{length}
 use borrow.Author.Tests.{le-ltb}
-use Rattle.window.specs.declared.Entry.{Entry}
-use Rattle.window.specs.declared.Entry.TheVariants.{Absent, Present}
+use Rattle.window.specs.Entries.{Entry}
+use Rattle.std.specs.Prelude.{None, Some}
 use Rattle.window.specs.Windows.{Window, Allowed}
 use Rattle.window.specs.Images.{image}
 use Rattle.window.specs.Cells.{Cell, Run, cells, shown}
@@ -34,9 +34,9 @@ no_bytes [] l = refl
 no_bytes (b ∷ h) l = absurd (omega arith)
 
 -- an entry that is not present is absent
-pub no_entry : (e : Entry) → is_present e ≡ false → Absent ≡ e
-no_entry Absent q = refl
-no_entry (Present a) q = absurd (let z : ◌≡◌ {A = ℕ} 0 1 = cc in omega arith)
+pub no_entry : (e : Entry) → is_present e ≡ false → None ≡ e
+no_entry None q = refl
+no_entry (Some a) q = absurd (let z : ◌≡◌ {A = ℕ} 0 1 = cc in omega arith)
 
 -- the canonical tape of what is storable asks for the runs of its cells, and ends without header and entry
 canonical_gives : (edition : Edition) (cs : List Cell) (h : List ℕ) (e : Entry) → Storable limits cs h e
@@ -45,7 +45,7 @@ unfolding plan canonical
 canonical_gives edition cs h e m =
     let rs : List Run = runs follow cs in
     let g : AllGood follow (2 ^ 16) rs = good_runs follow (2 ^ 16) cs (cells_ok (2 ^ 16) cs m.small) in
-    let k : Gives (plan (tape edition) (canonical edition cs)) rs (done (summary_of rs [] Absent))
+    let k : Gives (plan (tape edition) (canonical edition cs)) rs (done (summary_of rs [] None))
     = text_gives edition (length (canonical edition cs)) rs g
     (number_fits rs g (longest_runs follow cs m.rising) (rising_runs follow cs m.rising)) in
     record { asks = k.asks; ends = k.ends ∙ (λ i. done (summary_of rs (no_bytes h m.header.short i) (no_entry e m.entry.present i))) }

@@ -3,7 +3,7 @@ use mathlib.Core.Path.{◌≡◌, refl, sym, ◌∙◌}
 use Prim.Native.Nat.{ℕ}
 use mathlib.Core.List.{List, [], ◌∷◌}
 use Rattle.lists.proofs.TestLaws.{by_test}
-use Rattle.window.specs.declared.Entry.TheVariants.{Absent}
+use Rattle.std.specs.Prelude.{None}
 use Rattle.text.specs.Lines.{Line, lines}
 use Rattle.text.specs.Terms.{header_in, header_among, entry_in, entry_among, SameContent}
 use Rattle.text.specs.RoundTrip.{Compared}
@@ -26,7 +26,7 @@ header_in_lem (bad f) h = refl
 header_in_lem (good bs) h = by_test (is_last bs) (λ e. rw e refl) (λ e. rw e refl)
 
 -- a line has no entry
-entry_in_lem : (r : Read) → entry_in (carried r) Absent ≡ Absent
+entry_in_lem : (r : Read) → entry_in (carried r) None ≡ None
 unfolding carries
 entry_in_lem (bad f) = refl
 entry_in_lem (good bs) = by_test (is_last bs) (λ e. rw e refl) (λ e. rw e refl)
@@ -37,7 +37,7 @@ no_header [] = refl
 no_header (l ∷ ls) = header_in_lem (read l.chars) (header_among (λ chars. carried (read chars)) ls) ∙ no_header ls
 
 -- and no entry
-no_entry : (ls : List Line) → entry_among (λ chars. carried (read chars)) ls ≡ Absent
+no_entry : (ls : List Line) → entry_among (λ chars. carried (read chars)) ls ≡ None
 no_entry [] = refl
 no_entry (l ∷ ls) = rw (no_entry ls) (entry_in_lem (read l.chars))
 

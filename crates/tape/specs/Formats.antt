@@ -1,6 +1,6 @@
 -- Tapes as a format, one for each edition.
 use Rattle.std.specs.Prelude.{ℕ, suc, Bool, cond, not, ◌&&◌, ◌||◌, List, [], ◌∷◌, ltb, eqb, length}
-use Rattle.window.specs.declared.Entry.{Entry}
+use Rattle.window.specs.Entries.{Entry}
 use Rattle.window.specs.Windows.{Window}
 use Rattle.window.specs.Plans.{is_present}
 use Rattle.text.specs.Formats.{Row, Format}

@@ -17,8 +17,26 @@ use Rattle.tape.specs.Reading.{length_in, address_in, data_in, covered, check_in
 use Rattle.tape.specs.Reading.Read.{good}
 use Rattle.tape.specs.Judging.{check_by, check_of}
 use Rattle.tape.proofs.TapeCheckLaws.{covered_length, covered_number}
-use Rattle.tape_read.specs.declared.Line.TheVariants.{Good, Bad}
+use Rattle.std.specs.Prelude.{Result, Ok, Err}
+use Rattle.text.specs.declared.Fault.{Fault}
+use Rattle.tape_read.specs.declared.Line.{Line}
 use Rattle.tape_read.specs.Answers.{as_line}
+
+-- ---- the two answers
+
+-- a line that was read
+abbrev pub good_line : ℕ → ℕ → Result Line Fault
+good_line address len = Ok (record { address = address; len = len })
+
+-- a line that a row refuses at a place
+abbrev pub bad_line : ℕ → ℕ → Result Line Fault
+bad_line row place = Err (record { row = row; place = place; want = 0 })
+
+-- what two lines say is the same where both were read and their answers are the same
+good_same : (a len a' len' : ℕ) → good_line a len ≡ good_line a' len' → (a ≡ a') × (len ≡ len')
+good_same a len a' len' q =
+    let r : ◌≡◌ {A = Line} (record { address = a; len = len }) (record { address = a'; len = len' }) = cc in
+    (ap (λ (x : Line). x.address) r, ap (λ (x : Line). x.len) r)
 
 -- ---- fields by their characters
 
@@ -102,7 +120,7 @@ unfolding row6
 past_6 n len six = eqb-true n (11 + 2 * len) (not-false (eqb n (11 + 2 * len)) six)
 
 -- a good answer of `read_line` says what was read
-pub line_got : (chars : List ℕ) (place a len : ℕ) → Good a len ≡ as_line place (read chars) → LineGot chars a len
+pub line_got : (chars : List ℕ) (place a len : ℕ) → good_line a len ≡ as_line place (read chars) → LineGot chars a len
 unfolding read
 line_got chars place a len q =
     by_test (row3 chars) (λ t. absurd (never (rw t at q)))
@@ -111,26 +129,26 @@ line_got chars place a len q =
     (λ t₅. by_test (row6 (length chars) (length_in (bs chars))) (λ t. absurd (never (rw (t₃, t₄, t₅, t) at q)))
     (λ t₆. made t₃ t₄ t₅ t₆ (rw (t₃, t₄, t₅, t₆)) (rw (t₃, t₄, t₅, t₆) at q)))))
   where
-    never : {reason at : ℕ} → Good a len ≡ Bad reason at → ⊥
+    never : {reason at : ℕ} → good_line a len ≡ bad_line reason at → ⊥
     never e = let z : ◌≡◌ {A = ℕ} 0 1 = cc in omega arith
 
     made : row3 chars ≡ false → row4 chars ≡ false → row5 chars ≡ false → row6 (length chars) (length_in (bs chars)) ≡ false
-        → read chars ≡ good (bs chars) → Good a len ≡ Good (address_in (bs chars)) (length_in (bs chars)) → LineGot chars a len
+        → read chars ≡ good (bs chars) → good_line a len ≡ good_line (address_in (bs chars)) (length_in (bs chars)) → LineGot chars a len
     made t₃ t₄ t₅ t₆ r e =
-        let l : len ≡ length_in (bs chars) = cc in
+        let same = good_same a len (address_in (bs chars)) (length_in (bs chars)) e in
         record {
           is = r;
           short = past_3 chars t₃;
           letter = past_4 chars t₄;
           digits = past_5 chars t₅;
-          len_is = l;
-          address_is = cc;
-          long = past_6 (length chars) (length_in (bs chars)) t₆ ∙ ap (λ (k : ℕ). 11 + 2 * k) (sym l);
+          len_is = same.1;
+          address_is = same.0;
+          long = past_6 (length chars) (length_in (bs chars)) t₆ ∙ ap (λ (k : ℕ). 11 + 2 * k) (sym same.1);
         }
 
 -- such a line is the same at any place
-pub line_is : (chars : List ℕ) (a len place : ℕ) → LineGot chars a len → Good a len ≡ as_line place (read chars)
-line_is chars a len place g = (λ i. Good (g.address_is i) (g.len_is i)) ∙ ap (as_line place) (sym g.is)
+pub line_is : (chars : List ℕ) (a len place : ℕ) → LineGot chars a len → good_line a len ≡ as_line place (read chars)
+line_is chars a len place g = (λ i. good_line (g.address_is i) (g.len_is i)) ∙ ap (as_line place) (sym g.is)
 
 -- ---- the right check
 

@@ -11,27 +11,26 @@ use Rattle.hex_digits.specs.Digits.{first_bad}
 use Rattle.tape.specs.declared.Edition.{Edition}
 use Rattle.tape.specs.Reading.{fault, length_in, address_in, covered, check_in, row3, row4, row5, row6, read}
 use Rattle.tape.specs.Judging.{check_of, row7}
-use Rattle.tape_read.specs.declared.Line.TheVariants.{Good, Bad}
 use Rattle.tape_read.specs.Answers.{as_line}
-use Rattle.tape_read.proofs.LineFieldLaws.{bs, LineGot, line_is}
+use Rattle.tape_read.proofs.LineFieldLaws.{good_line, bad_line, bs, LineGot, line_is}
 
 -- a refusal at the line's first character
-at_start : (place : ℕ) (chars : List ℕ) (reason : ℕ) → fault reason 0 ≡ read chars → Bad reason place ≡ as_line place (read chars)
-at_start place chars reason e = ap (Bad reason) (sym (add-zero place)) ∙ ap (as_line place) e
+at_start : (place : ℕ) (chars : List ℕ) (reason : ℕ) → fault reason 0 ≡ read chars → bad_line reason place ≡ as_line place (read chars)
+at_start place chars reason e = ap (bad_line reason) (sym (add-zero place)) ∙ ap (as_line place) e
 
 module _ (place : ℕ) (chars : List ℕ) where
   -- the line is too long
-  pub row_3 : 521 < length chars → Bad 3 place ≡ as_line place (read chars)
+  pub row_3 : 521 < length chars → bad_line 3 place ≡ as_line place (read chars)
   unfolding read row3
   row_3 h = at_start place chars 3 (rw (lt-ltb 521 (length chars) h))
 
   -- it has fewer than 3 characters
-  pub row_4_short : length chars ≤ 521 → length chars < 3 → Bad 4 place ≡ as_line place (read chars)
+  pub row_4_short : length chars ≤ 521 → length chars < 3 → bad_line 4 place ≡ as_line place (read chars)
   unfolding read row3 row4
   row_4_short short h = at_start place chars 4 (rw (le-ltb 521 (length chars) short, lt-ltb (length chars) 3 h))
 
   -- it does not begin with ;
-  pub row_4_first : length chars ≤ 521 → 3 ≤ length chars → (get_or chars 0 0 ≡ 59 → ⊥) → Bad 4 place ≡ as_line place (read chars)
+  pub row_4_first : length chars ≤ 521 → 3 ≤ length chars → (get_or chars 0 0 ≡ 59 → ⊥) → bad_line 4 place ≡ as_line place (read chars)
   unfolding read row3 row4
   row_4_first short three h =
       at_start place chars 4 (rw (le-ltb 521 (length chars) short, le-ltb (length chars) 3 three, ne_eqb (get_or chars 0 0) 59 h))
@@ -50,7 +49,7 @@ module _ (chars : List ℕ) (h : LineHead chars) where
 
   -- a character from the second on is no digit
   pub row_5 : (place wrong : ℕ) → wrong ≡ first_bad (drop 1 chars) → wrong < length chars - 1
-      → Bad 5 (place + (1 + wrong)) ≡ as_line place (read chars)
+      → bad_line 5 (place + (1 + wrong)) ≡ as_line place (read chars)
   unfolding read row5
   row_5 place wrong e l =
       let k : first_bad (drop 1 chars) < length (drop 1 chars) = omega (arith, length-drop 1 chars) in
@@ -63,7 +62,7 @@ module _ (chars : List ℕ) (h : LineHead chars) where
     five = le-ltb (first_bad (drop 1 chars)) (length (drop 1 chars)) digits
 
     -- the length is another than the length field says
-    pub row_6 : (place : ℕ) → (length chars ≡ 11 + 2 * len → ⊥) → Bad 6 place ≡ as_line place (read chars)
+    pub row_6 : (place : ℕ) → (length chars ≡ 11 + 2 * len → ⊥) → bad_line 6 place ≡ as_line place (read chars)
     unfolding read row6
     row_6 place l =
         at_start place chars 6 (rw (
@@ -87,7 +86,7 @@ module _ (chars : List ℕ) (h : LineHead chars) where
     }
 
     -- and so it is read
-    pub read_good : (place : ℕ) → length chars ≡ 11 + 2 * len → (a : ℕ) → a ≡ address_in (bs chars) → Good a len ≡ as_line place (read chars)
+    pub read_good : (place : ℕ) → length chars ≡ 11 + 2 * len → (a : ℕ) → a ≡ address_in (bs chars) → good_line a len ≡ as_line place (read chars)
     read_good place l a e = line_is chars a len place (line_good l a e)
 
 -- the check that a line has is the right one

@@ -1,5 +1,5 @@
--- Rows 7, 10 and 11 by numbers: each answer of `judge`, and what it says of the step that the definitions take.
-use mathlib.Core.Path.{◌≡◌, refl, sym, ◌∙◌, subst}
+-- Rows 7, 10 and 11 by numbers, and what an answer says of the step that the definitions take.
+use mathlib.Core.Path.{◌≡◌, refl, sym, ap, ◌∙◌, subst}
 use Prim.Native.Nat.{ℕ, ◌+◌, ◌^◌, ◌≤◌, ◌<◌}
 use native.Mathlib.Nat.{add-zero}
 use native.Mathlib.Omega.{arith}
@@ -7,49 +7,26 @@ use mathlib.Core.Bool.{false}
 use mathlib.Core.List.{List, [], ◌∷◌}
 use lib.Dec.{eqb}
 use lib.ListN.{length, take, drop, length-take, length-drop}
-use borrow.Author.Tests.{eq-eqb, ne_eqb, lt-ltb, le-ltb}
+use borrow.Author.Tests.{ne_eqb}
 use Rattle.lists.proofs.TestLaws.{by_test, Of, either}
 use Rattle.hex_digits.specs.Digits.{bytes, first_bad}
-use Rattle.window.specs.declared.Entry.TheVariants.{Absent}
 use Rattle.text.specs.declared.State.{State}
 use Rattle.text.specs.declared.Step.{Step}
-use Rattle.text.specs.declared.Step.TheVariants.{Refuse, Put, Finish}
-use Rattle.text.specs.Scan.{Step as ScanStep, more, more_data}
+use Rattle.text.specs.declared.Step.TheVariants.{Refuse}
+use Rattle.text.specs.Scan.{Step as ScanStep}
 use Rattle.text.specs.Scan.Step.{refuse, skip, title, put, finish}
-use Rattle.text.specs.Steps.{numbers, state_with, as_step}
+use Rattle.text.specs.Steps.{CanCount, state_with, as_step}
 use Rattle.text.proofs.StepLaws.{Counting}
 use Rattle.tape.specs.declared.Edition.{Edition}
 use Rattle.tape.specs.Reading.{Read, fault, length_in, data_in, covered, check_in, is_last, row3, row4, row5, row6, read}
 use Rattle.tape.specs.Reading.Read.{good, bad}
 use Rattle.tape.specs.Judging.{check_of, row7, row10, row11, carries, carried, judge, judged}
 use Rattle.tape.specs.Formats.{tape}
-use Rattle.tape_read.specs.declared.Line.TheVariants.{Bad}
+use Rattle.std.specs.Prelude.{Err}
+use Rattle.text.specs.declared.Fault.{Fault}
 use Rattle.tape_read.specs.Answers.{as_line}
 use Rattle.tape_step.specs.Answers.{passing}
 use Rattle.tape_read.proofs.LineFieldLaws.{bs, length_data, LineGot}
-
--- ---- each answer of `judge`
-
-module _ (place : ℕ) (n : State) (a len : ℕ) where
-  -- the last line has another number
-  pub row_10 : len ≡ 0 → (a ≡ n.records → ⊥) → Refuse 10 place 0 ≡ passing place n a len
-  unfolding passing row10
-  row_10 z h = rw (eq-eqb len 0 z, ne_eqb a n.records h)
-
-  -- the last line
-  pub ended : len ≡ 0 → a ≡ n.records → Finish (numbers (more (state_with [] n) [])) Absent ≡ passing place n a len
-  unfolding passing row10
-  ended z h = rw (eq-eqb len 0 z, eq-eqb a n.records h)
-
-  -- the data passes 2^16
-  pub row_11 : (len ≡ 0 → ⊥) → 65536 < a + len → Refuse 11 place 0 ≡ passing place n a len
-  unfolding passing row11
-  row_11 z h = rw (ne_eqb len 0 z, lt-ltb (2 ^ 16) (a + len) h)
-
-  -- a data line
-  pub stored : (len ≡ 0 → ⊥) → a + len ≤ 65536 → Put (numbers (more_data (state_with [] n) len)) a len ≡ passing place n a len
-  unfolding passing row11
-  stored z h = rw (ne_eqb len 0 z, le-ltb (2 ^ 16) (a + len) h)
 
 -- ---- the step of a line
 
@@ -74,16 +51,18 @@ module _ (edition : Edition) (place : ℕ) (n : State) (chars : List ℕ) where
   whole = as_step place (state_with [] n) (judged edition (state_with [] n) (read chars))
 
   -- a line that cannot be read is refused where its row says
-  pub step_bad : (reason at : ℕ) → Bad reason at ≡ as_line place (read chars) → Refuse reason at 0 ≡ whole
-  step_bad reason at q = go (read chars) (no_want chars).got q
+  pub step_bad : (f : Fault) → Err f ≡ as_line place (read chars) → Refuse f.row f.place f.want ≡ whole
+  step_bad f q = go (read chars) (no_want chars).got q
     where
-      go : (r : Read) → NoWant r → Bad reason at ≡ as_line place r → Refuse reason at 0 ≡ as_step place (state_with [] n) (judged edition (state_with [] n) r)
+      go : (r : Read) → NoWant r → Err f ≡ as_line place r → Refuse f.row f.place f.want ≡ as_step place (state_with [] n) (judged edition (state_with [] n) r)
       go (good bs) w e = absurd (let z : ◌≡◌ {A = ℕ} 0 1 = cc in omega arith)
-      go (bad f) w e = cc
+      go (bad g) w e =
+          let same : ◌≡◌ {A = Fault} f (record { row = g.reason; place = place + g.offset; want = 0 }) = cc in
+          ap (λ (x : Fault). Refuse x.row x.place x.want) same ∙ ap (Refuse g.reason (place + g.offset)) (sym w)
 
   module _ (a len : ℕ) (g : LineGot chars a len) where
     -- where the numbers have room for a line's characters, they have it for what it adds
-    pub judge_fits : (n.number + length chars < 2 ^ 64) × (n.records + length chars < 2 ^ 64) × (n.cells + length chars < 2 ^ 64)
+    pub judge_fits : CanCount n (length chars)
         → (n.number + 1 < 2 ^ 64) × (n.records + 1 < 2 ^ 64) × (n.cells + len < 2 ^ 64) × (len < 256)
     judge_fits room = (
       omega (arith, room.0, g.long),

@@ -8,7 +8,7 @@ ghost use Rattle.text.specs.Write.{write, write_answer, output_after};
 ghost use Rattle.tape.specs.Formats.{row19, tape};
 
 use formats::Format;
-use marks::{Bad, Form};
+use marks::Form;
 use tape::Edition;
 use window::{Entry, Written};
 
@@ -20,8 +20,8 @@ fn has_extras(header: &[u8], entry: Entry) -> bool
         return true;
     }
     match entry {
-        Entry::Absent => false,
-        Entry::Present(_) => true,
+        None => false,
+        Some(_) => true,
     }
 }
 
@@ -45,7 +45,7 @@ pub fn write_as(
     }
     let cells = memory.len();
     let bad = marks::first_bad(form, marks, cells);
-    if let Bad::At(place) = bad {
+    if let Some(place) = bad {
         return text::refused_write(16, place);
     }
     if has_extras(header, entry) {

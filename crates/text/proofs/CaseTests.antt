@@ -6,8 +6,8 @@ use mathlib.Core.Option.{some}
 use lib.Dec.{leb, ltb, eqb}
 use lib.ListN.{length}
 use Rattle.window.specs.declared.Refusal.{Refusal}
-use Rattle.window.specs.declared.Entry.{Entry}
-use Rattle.window.specs.declared.Entry.TheVariants.{Absent, Present}
+use Rattle.window.specs.Entries.{Entry}
+use Rattle.std.specs.Prelude.{None, Some}
 use Rattle.window.specs.Cells.{Cell, cells}
 use Rattle.window.specs.Plans.{Plan, is_present, address_of, Outcome}
 use Rattle.window.specs.Plans.Plan.{store, stop, done}
@@ -71,10 +71,10 @@ same_refusal f g = eqb f.reason g.reason && (eqb f.ordinal g.ordinal && (eqb f.p
 
 -- two entries are both absent, or have the same address
 abbrev pub same_entry : Entry → Entry → Bool
-same_entry Absent Absent = true
-same_entry Absent (Present b) = false
-same_entry (Present a) Absent = false
-same_entry (Present a) (Present b) = eqb a b
+same_entry None None = true
+same_entry None (Some b) = false
+same_entry (Some a) None = false
+same_entry (Some a) (Some b) = eqb a b
 
 -- two results are the same refusal, or have the same values and cells
 abbrev pub same_result : Result → Result → Bool

@@ -7,7 +7,7 @@ use mathlib.Core.List.{List, [], ◌∷◌}
 use mathlib.Core.Logic.{◌⊎◌, inl, inr}
 use lib.Dec.{T, lit<}
 use lib.ListN.{length}
-use Rattle.window.specs.declared.Entry.{Entry}
+use Rattle.window.specs.Entries.{Entry}
 use Rattle.window.specs.Windows.{Window, Allowed}
 use Rattle.window.specs.Images.{Image}
 use Rattle.window.specs.Cells.{Cell, Run, shown, total}

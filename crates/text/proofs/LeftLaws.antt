@@ -6,10 +6,10 @@ use mathlib.Core.List.{List, []}
 use mathlib.Core.Logic.{⊎_elim}
 use lib.ListN.{length, drop}
 use Rattle.window.specs.declared.Refusal.{Refusal}
-use Rattle.window.specs.declared.Entry.{Entry}
+use Rattle.window.specs.Entries.{Entry}
 use Rattle.window.specs.Plans.{refusal_with, refusal, Plan}
 use Rattle.window.specs.Plans.Plan.{store, stop}
-use Rattle.text.specs.declared.Found.TheVariants.{Nothing}
+use Rattle.std.specs.Prelude.{None}
 use Rattle.text.specs.declared.State.{State}
 use Rattle.text.specs.declared.Step.{Step}
 use Rattle.text.specs.declared.Step.TheVariants.{Refuse, Pass, Put, Finish}
@@ -55,7 +55,7 @@ module _ {C : Type 0} {F : Format} {L : Limits} (laws : Lawful F L) (k : Countin
   s = state_with g.header n
 
   -- no line is left
-  pub left_none : Nothing ≡ found (lines F.gap at (drop at text)) → f (stop (refusal 14 n.number (length text))) ≡ whole
+  pub left_none : None ≡ found (lines F.gap at (drop at text)) → f (stop (refusal 14 n.number (length text))) ≡ whole
   left_none q = rw (next_none F.gap text at q) at g.rest
 
   module _ {from to : ℕ} (x : Next F.gap text at from to) where

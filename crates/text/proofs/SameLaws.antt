@@ -11,8 +11,8 @@ use mir.Facts.{and_yes}
 use Rattle.window.specs.declared.Refusal.{Refusal}
 use Rattle.window.specs.Cells.{Cell}
 use Rattle.window.proofs.OrderLaws.{Rising}
-use Rattle.window.specs.declared.Entry.{Entry}
-use Rattle.window.specs.declared.Entry.TheVariants.{Absent, Present}
+use Rattle.window.specs.Entries.{Entry}
+use Rattle.std.specs.Prelude.{None, Some}
 use Rattle.window.specs.Plans.{is_present, address_of}
 use Rattle.window.proofs.CellLaws.{In}
 use Rattle.lists.proofs.ByteLaws.{Bytes}
@@ -58,10 +58,10 @@ same_refusal_lem f g t =
 
 -- entries that pass the test are equal
 same_entry_lem : (x y : Entry) → T (same_entry x y) → x ≡ y
-same_entry_lem Absent Absent t = refl
-same_entry_lem Absent (Present b) t = absurd t
-same_entry_lem (Present a) Absent t = absurd t
-same_entry_lem (Present a) (Present b) t = ap Present (eqb→eq a b t)
+same_entry_lem None None t = refl
+same_entry_lem None (Some b) t = absurd t
+same_entry_lem (Some a) None t = absurd t
+same_entry_lem (Some a) (Some b) t = ap Some (eqb→eq a b t)
 
 -- results that pass the test are equal
 pub same_result_lem : (x y : Result) → T (same_result x y) → x ≡ y

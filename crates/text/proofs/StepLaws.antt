@@ -5,8 +5,8 @@ use native.Mathlib.Omega.{arith}
 use mathlib.Core.List.{List, [], ◌∷◌}
 use mathlib.Core.Logic.{◌⊎◌, inl, inr}
 use lib.ListN.{length, drop}
-use Rattle.text.specs.declared.Found.TheVariants.{At, Nothing}
-use Rattle.text.specs.declared.Taken.TheVariants.{Line, Nothing as None}
+use Rattle.std.specs.Prelude.{Option, Some, None}
+use Rattle.text.specs.declared.Taken.{Taken}
 use Rattle.text.specs.Lines.{Line as TextLine, lines}
 use Rattle.text.specs.Finds.{found}
 use Rattle.text.specs.declared.State.{State}
@@ -16,7 +16,7 @@ use Rattle.text.specs.Scan.{Fault, State as ScanState, Step as ScanStep, more, m
 use Rattle.text.specs.Scan.Step.{refuse, skip, title, put, finish}
 use Rattle.text.specs.Formats.{Format}
 use Rattle.text.specs.Steps.{state_with, as_step, taken}
-use Rattle.text.proofs.FindLaws.{part, Next, next_long, next_is, next_none}
+use Rattle.text.proofs.FindLaws.{stands, part, Next, next_long, next_is, next_none}
 
 -- a format whose steps do not look at the header, and whose lines have a character for each data byte: its numbers can be kept and stay small
 pub record Counting (F : Format) : Type 0 where
@@ -56,6 +56,16 @@ step_says F k place h n cs r q =
 
 -- ---- the next line as code takes it
 
+-- the answer that a line stands from one place to another and does this
+abbrev pub takes : ℕ → ℕ → Step → Option Taken
+takes from to step = Some (record { from = from; to = to; step = step })
+
+pub takes_same : (from to from' to' : ℕ) (step step' : Step) → takes from to step ≡ takes from' to' step'
+    → (from ≡ from') × (to ≡ to') × (step ≡ step')
+takes_same from to from' to' step step' q =
+    let r : ◌≡◌ {A = Taken} (record { from = from; to = to; step = step }) (record { from = from'; to = to'; step = step' }) = cc in
+    (ap (λ (x : Taken). x.from) r, ap (λ (x : Taken). x.to) r, ap (λ (x : Taken). x.step) r)
+
 module _ (F : Format) (n : State) (text : List ℕ) (at : ℕ) where
   -- the lines that are left
   abbrev left : List TextLine
@@ -66,34 +76,37 @@ module _ (F : Format) (n : State) (text : List ℕ) (at : ℕ) where
   step_at from to = as_step from (state_with [] n) (F.step (state_with [] n) (part text from to))
 
   -- no line is left
-  pub taken_none : Nothing ≡ found left → None ≡ taken F n left
+  pub taken_none : None ≡ found left → None ≡ taken F n left
   taken_none q = rw (next_none F.gap text at q)
 
   -- the next line, with its step
-  pub taken_line : (from to : ℕ) → Next F.gap text at from to → (step : Step) → step ≡ step_at from to → Line from to step ≡ taken F n left
+  pub taken_line : (from to : ℕ) → Next F.gap text at from to → (step : Step) → step ≡ step_at from to → takes from to step ≡ taken F n left
   taken_line from to x step q =
       let e : to ≡ from + length (part text from to) = omega (arith, next_long F.gap x, x.some_chars) in
-      rw x.is (λ i. Line from (e i) (q i))
+      rw x.is (λ i. takes from (e i) (q i))
 
   -- an answer of none: no line is left
-  pub none_taken : None ≡ taken F n left → Nothing ≡ found left
+  pub none_taken : None ≡ taken F n left → None ≡ found left
   none_taken q = go left q
     where
-      go : (ls : List TextLine) → None ≡ taken F n ls → Nothing ≡ found ls
+      go : (ls : List TextLine) → None ≡ taken F n ls → None ≡ found ls
       go [] e = refl
       go (l ∷ ls) e = absurd (let z : ◌≡◌ {A = ℕ} 0 1 = cc in omega arith)
 
   -- what an answer with a line says
-  pub line_taken : (from to : ℕ) (step : Step) → at ≤ length text → Line from to step ≡ taken F n left
+  pub line_taken : (from to : ℕ) (step : Step) → at ≤ length text → takes from to step ≡ taken F n left
       → Next F.gap text at from to × (step ≡ step_at from to)
   line_taken from to step l q =
       let x : Next F.gap text at from to = next_is F.gap text at from to l (go left q) in
-      let e : Line from to step ≡ Line from (from + length (part text from to)) (step_at from to) = rw x.is at q in
-      (x, cc)
+      let e : takes from to step ≡ takes from (from + length (part text from to)) (step_at from to) = rw x.is at q in
+      (x, (takes_same from to from (from + length (part text from to)) step (step_at from to) e).2)
     where
-      go : (ls : List TextLine) → Line from to step ≡ taken F n ls → At from to ≡ found ls
+      go : (ls : List TextLine) → takes from to step ≡ taken F n ls → stands from to ≡ found ls
       go [] e = absurd (let z : ◌≡◌ {A = ℕ} 0 1 = cc in omega arith)
-      go (l ∷ ls) e = cc
+      go (l ∷ ls) e =
+          let own : Step = as_step l.place (state_with [] n) (F.step (state_with [] n) l.chars) in
+          let same = takes_same from to l.place (l.place + length l.chars) step own e in
+          λ i. stands (same.0 i) (same.1 i)
 
   -- numbers that are not above the place have room for one line more
   pub line_fits : {from to : ℕ} → Next F.gap text at from to → (n.number ≤ at) × (n.records ≤ at) × (n.cells ≤ at)

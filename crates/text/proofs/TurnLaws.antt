@@ -5,13 +5,13 @@ use Prim.Native.Nat.{ℕ, suc, ◌≤◌, zero-le}
 use mathlib.Core.Bool.{false}
 use mathlib.Core.List.{List, [], ◌∷◌}
 use lib.ListN.{length, drop}
-use Rattle.window.specs.declared.Entry.{Entry}
+use Rattle.window.specs.Entries.{Entry}
 use Rattle.window.specs.Images.{Image, blank}
 use Rattle.window.specs.Plans.{refusal, Plan, Outcome, row12, row13, filled, placed}
 use Rattle.window.specs.Plans.Plan.{store}
 use Rattle.window.specs.Plans.Outcome.{refused}
 use Rattle.window.proofs.RoomLaws.{length_blank, fill_length}
-use Rattle.text.specs.declared.Found.TheVariants.{Nothing}
+use Rattle.std.specs.Prelude.{None}
 use Rattle.text.specs.Lines.{lines}
 use Rattle.text.specs.Finds.{found}
 use Rattle.text.specs.Scan.{Fault, Step, State, start, more, more_data, ended, located, onward, scan}
@@ -51,7 +51,7 @@ module _ (F : Format) (text : List ℕ) (base size : ℕ) (img : Image) (s : Sta
   whole = placed base (blank size) (plan F text)
 
   -- row 14
-  pub walk_none : Nothing ≡ found (lines F.gap at (drop at text)) → refused (refusal 14 s.number (length text)) ≡ whole
+  pub walk_none : None ≡ found (lines F.gap at (drop at text)) → refused (refusal 14 s.number (length text)) ≡ whole
   walk_none q = rw (next_none F.gap text at q) at w.rest
 
   module _ (from to : ℕ) (n : Next F.gap text at from to) where

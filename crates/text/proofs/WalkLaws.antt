@@ -5,7 +5,7 @@ use native.Mathlib.Omega.{arith}
 use mathlib.Core.List.{List, [], ◌∷◌}
 use lib.ListN.{length}
 use Rattle.window.specs.declared.Refusal.{Refusal}
-use Rattle.window.specs.declared.Entry.{Entry}
+use Rattle.window.specs.Entries.{Entry}
 use Rattle.window.specs.Plans.{Summary, refusal, Plan}
 use Rattle.window.specs.Plans.Plan.{store, stop, done}
 use Rattle.window.proofs.PlanLaws.{stores, final}

@@ -1,7 +1,7 @@
 -- What a text format has to say; everything else about loading and writing is shared.
 use Rattle.std.specs.Prelude.{ℕ, Bool, List, length}
 use Rattle.window.specs.declared.Refusal.{Refusal}
-use Rattle.window.specs.declared.Entry.{Entry}
+use Rattle.window.specs.Entries.{Entry}
 use Rattle.window.specs.Windows.{Window}
 use Rattle.window.specs.Cells.{Cell}
 use Rattle.window.specs.Plans.{Plan}

@@ -1,7 +1,7 @@
 -- The words of demand 3, read off the lines of a text and not off a load (01, "The canonical text", last paragraph).
 use Rattle.std.specs.Prelude.{◌≡◌, ℕ, false, List, [], ◌∷◌, ◌↔◌, take}
-use Rattle.window.specs.declared.Entry.{Entry}
-use Rattle.window.specs.declared.Entry.TheVariants.{Absent}
+use Rattle.window.specs.Entries.{Entry}
+use Rattle.std.specs.Prelude.{None}
 use Rattle.window.specs.Windows.{Window, Holds}
 use Rattle.window.specs.Cells.{Run, Addressed}
 use Rattle.window.specs.declared.Loaded.{Loaded}
@@ -50,7 +50,7 @@ entry_in (finish a) e = a
 
 -- the entry among these
 abbrev pub entry_among : (List ℕ → Step) → List Line → Entry
-entry_among part [] = Absent
+entry_among part [] = None
 entry_among part (l ∷ ls) = entry_in (part l.chars) (entry_among part ls)
 
 -- ---- what a text carries

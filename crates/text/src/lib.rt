@@ -1,4 +1,4 @@
-// What a walk over the lines of a text keeps, what finding a line and a step answer, and the answers of a write.
+// What a walk over the lines of a text keeps, where a line stands and what it does, and the answers of a write.
 #![tactic(auto)]
 
 ghost use Rattle.std.specs.Prelude.{◌≡◌, ◌+◌, ◌^◌, ◌<◌, []};
@@ -10,11 +10,11 @@ ghost use Rattle.text.specs.Write.WriteOutcome.{declined};
 
 use window::{Entry, Written};
 
-// Where a line stands: from its first character to behind its last.
+// Where a line stands: from its first character to after its last.
 #[derive(Clone, Copy)]
-pub enum Found {
-    At { from: usize, to: usize },
-    Nothing,
+pub struct Found {
+    pub from: usize,
+    pub to: usize,
 }
 
 // What was read so far: lines, data lines, and their data bytes.
@@ -23,6 +23,14 @@ pub struct State {
     pub number: usize,
     pub records: usize,
     pub cells: usize,
+}
+
+// Why a line cannot be read: the row that refuses it, where, and for row 7 of S-records the checksum that would have been right (0 otherwise).
+#[derive(Clone, Copy)]
+pub struct Fault {
+    pub row: u32,
+    pub place: usize,
+    pub want: u8,
 }
 
 // What one line does: a row refuses it, at a place of the text and with the checksum that would have been right (0 for none); or it
@@ -36,18 +44,12 @@ pub enum Step {
     Finish(State, Entry),
 }
 
-// The step of a line, or no answer: what a fast way gives that may only say yes.
+// A line of a text: where it stands, and what it does.
 #[derive(Clone, Copy)]
-pub enum Sure {
-    Yes(Step),
-    No,
-}
-
-// The next line of a text: where it stands, and what it does; or there is none.
-#[derive(Clone, Copy)]
-pub enum Taken {
-    Line { from: usize, to: usize, step: Step },
-    Nothing,
+pub struct Taken {
+    pub from: usize,
+    pub to: usize,
+    pub step: Step,
 }
 
 // Before the first line.

@@ -7,7 +7,7 @@ use lib.Dec.{lit≤}
 use lib.ListN.{length, get_or, drop}
 use Rattle.hex_digits.specs.Digits.{bytes}
 use Rattle.lists.proofs.TestLaws.{Of, either}
-use Rattle.window.specs.declared.Entry.{Entry}
+use Rattle.window.specs.Entries.{Entry}
 use Rattle.text.specs.Lines.{Line, lines}
 use Rattle.text.specs.Scan.{Step, State, start, more, more_data, ended, onward, scan}
 use Rattle.text.specs.Scan.Step.{refuse, skip, title, put, finish}

@@ -8,10 +8,9 @@
 #![tactic(auto)]
 
 ghost use Rattle.std.specs.Prelude.{◌≡◌, ◌≤◌, ◌<◌, length, IfOk};
-ghost use Rattle.hex_digits.specs.Tables.{digit_table};
 
-use convert::Converted;
 use formats::Format;
+use hex_read::DigitTable;
 use marks::Form;
 use std::io;
 use std::io::{BufWriter, Write};
@@ -43,11 +42,11 @@ fn print_canonical<W: Write>(
     output: &mut [u8],
 ) -> io::Result<()> {
     match convert::convert(format, base, text, memory, marks, output) {
-        Converted::Refused(refusal) => {
+        Err(refusal) => {
             printing::print_refusal(out, refusal)?;
             writeln!(out)
         }
-        Converted::Text(length) => print_text(out, output, length),
+        Ok(length) => print_text(out, output, length),
     }
 }
 
@@ -126,7 +125,7 @@ fn run_behind<W: Write>(
     marks: &mut [u8],
     output: &mut [u8],
 ) -> io::Result<()> {
-    mark_bytes::fill(marks, 255);
+    marks.fill(255);
     let loaded = symbol_load::load_behind(text, base, memory, marks);
     printing::print_answer(out, loaded)?;
     if loaded.refusal.reason != 0 {
@@ -156,7 +155,7 @@ fn run_text<W: Write>(
     marks: &mut [u8],
     output: &mut [u8],
 ) -> io::Result<()> {
-    mark_bytes::fill(marks, 255);
+    marks.fill(255);
     let loaded = loader::load_as(format, form, text, base, memory, marks);
     printing::print_answer(out, loaded)?;
     if loaded.refusal.reason != 0 {
@@ -193,16 +192,15 @@ fn form_of(heading: &[u8]) -> Form {
 // Runs a text in the window, the format and the form of marks that its heading gives.
 fn run_window<W: Write>(
     out: &mut W,
-    table: &[u32; 256],
+    table: &DigitTable,
     heading: &[u8],
     text: &[u8],
 ) -> io::Result<()>
-    requires table { table.now ≡ digit_table }
     requires heading { 19 ≤ length heading.now }
 {
     let sign = heading[18];
-    let base = hex_read::number_of(table, &heading[1..9]);
-    let cells = hex_read::number_of(table, &heading[10..18]) as usize;
+    let base = table.number_of(&heading[1..9]);
+    let cells = table.number_of(&heading[10..18]) as usize;
     if cells > ROOM {
         return writeln!(out, "too many cells");
     }
@@ -222,8 +220,7 @@ fn run_window<W: Write>(
 }
 
 // Runs the first of some cases and returns how many characters it has.
-fn run_case<W: Write>(out: &mut W, table: &[u32; 256], cases: &[u8]) -> io::Result<usize>
-    requires table { table.now ≡ digit_table }
+fn run_case<W: Write>(out: &mut W, table: &DigitTable, cases: &[u8]) -> io::Result<usize>
     requires some { 0 < length cases.now }
     ensures some { IfOk result (λ n. 0 < n) }
     ensures within { IfOk result (λ n. n ≤ length cases.now) }
@@ -246,7 +243,7 @@ fn run_case<W: Write>(out: &mut W, table: &[u32; 256], cases: &[u8]) -> io::Resu
 
 // Runs all cases.
 fn run_cases<W: Write>(out: &mut W, cases: &[u8]) -> io::Result<()> {
-    let table = hex_read::digit_table();
+    let table = DigitTable::new();
     let mut at: usize = 0;
     while at < cases.len() {
         at += run_case(out, &table, &cases[at..])?;

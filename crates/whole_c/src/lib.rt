@@ -27,8 +27,7 @@ pub extern "C" fn srec_load_as(
     ensures marks { marks.new ≡ marks_after marks.old (load (window_of base memory.old marks.old) (plan (format_of (format_for format)) text.now)) }
 {
     let choice = c_answers::format_for(format);
-    let loaded = loader::load_as(choice, Form::Bytes, text, base, memory, marks);
-    c_answers::answer_of(loaded)
+    c_answers::answer_of(loader::load_as(choice, Form::Bytes, text, base, memory, marks))
 }
 
 // Writes the canonical text of a window.
@@ -48,8 +47,7 @@ pub extern "C" fn srec_write_as(
 {
     let choice = c_answers::format_for(format);
     let start = c_answers::entry_for(present, entry);
-    let written = writer::write(choice, base, memory, marks, header, start, out);
-    c_answers::result_of(written)
+    c_answers::result_of(writer::write(choice, base, memory, marks, header, start, out))
 }
 
 // What a write would answer if its output were just long enough.
@@ -67,6 +65,5 @@ pub extern "C" fn srec_room(
 {
     let choice = c_answers::format_for(format);
     let start = c_answers::entry_for(present, entry);
-    let written = writer::room(choice, base, memory, marks, header, start);
-    c_answers::result_of(written)
+    c_answers::result_of(writer::room(choice, base, memory, marks, header, start))
 }

@@ -19,11 +19,7 @@ pub struct Refusal {
 }
 
 // The address where a program starts, if an image has one.
-#[derive(Clone, Copy)]
-pub enum Entry {
-    Absent,
-    Present(u32),
-}
+pub type Entry = Option<u32>;
 
 // The header's bytes; those from `len` on are zero.
 #[derive(Clone, Copy)]

@@ -1,3 +1,4 @@
 pub mod CountLaws
+mod NameLaws
 mod NumberLaws
 pub mod SameLaws

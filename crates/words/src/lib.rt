@@ -1,111 +1,71 @@
 // Names and numbers as they stand in a text, and classes of characters.
 #![tactic(auto)]
 
-ghost use Rattle.std.specs.Prelude.{◌≡◌, ◌≤◌, ◌<◌, length, drop};
-ghost use Rattle.words.specs.Words.{is_letter, is_alnum, is_blank, is_break, holds, counted, number_in, is_name, is_number, same};
+ghost use Rattle.std.specs.Prelude.{◌≡◌, ◌≤◌, ◌<◌, ℕ, Bool, length, drop};
+ghost use Rattle.hex_digits.specs.Digits.{is_hex};
+ghost use Rattle.words.specs.Words.{is_letter, is_alnum, is_blank, is_break, Tells, counted, number_in, is_name, is_number};
 
-// A name has at most so many characters, a number so many digits, and with its `$` so many characters.
+// A name has at most so many characters, a number so many digits.
 const NAME: usize = 16;
 
 const DIGITS: usize = 8;
 
-const NUMBER: usize = 1 + DIGITS;
-
-// A class of characters: letters and digits; hex digits; space, CR and LF; all but those three; CR and LF; all but those two.
-#[derive(Clone, Copy)]
-pub enum Class {
-    Alnum,
-    Hex,
-    Blank,
-    NonBlank,
-    Break,
-    NonBreak,
-}
-
 // Is it a letter?
+#[tactic(auto, unfolding(crate::specs::Words::is_letter, hex_digits::specs::Digits::between))]
 pub fn is_letter(c: u8) -> bool
     ensures { result ≡ is_letter c }
 {
-    match c {
-        b'A'..=b'Z' => true,
-        b'a'..=b'z' => true,
-        _ => false,
-    }
+    c.is_ascii_alphabetic()
 }
 
 // Is it a letter or a digit?
-fn is_alnum(c: u8) -> bool
+#[tactic(auto, unfolding(crate::specs::Words::is_alnum, crate::specs::Words::is_letter, hex_digits::specs::Digits::between))]
+pub fn is_alnum(c: u8) -> bool
     ensures { result ≡ is_alnum c }
 {
-    match c {
-        b'0'..=b'9' => true,
-        _ => is_letter(c),
-    }
+    c.is_ascii_alphanumeric()
+}
+
+// Is it a hex digit of either case?
+#[tactic(auto, unfolding(hex_digits::specs::Digits::is_hex, hex_digits::specs::Digits::between))]
+pub fn is_hex(c: u8) -> bool
+    ensures { result ≡ is_hex c }
+{
+    c.is_ascii_hexdigit()
 }
 
 // Is it a space, CR or LF?
+#[tactic(auto, unfolding(crate::specs::Words::is_blank))]
 pub fn is_blank(c: u8) -> bool
     ensures { result ≡ is_blank c }
 {
-    match c {
-        b' ' => true,
-        b'\r' => true,
-        b'\n' => true,
-        _ => false,
-    }
+    matches!(c, b' ' | b'\r' | b'\n')
 }
 
 // Is it CR or LF?
-fn is_break(c: u8) -> bool
+#[tactic(auto, unfolding(crate::specs::Words::is_break))]
+pub fn is_break(c: u8) -> bool
     ensures { result ≡ is_break c }
 {
-    match c {
-        b'\r' => true,
-        b'\n' => true,
-        _ => false,
-    }
+    matches!(c, b'\r' | b'\n')
 }
 
-// Is it of the class?
-fn is_in(class: Class, c: u8) -> bool
-    ensures { result ≡ holds class c }
+// How many characters of a class a text begins with.
+pub fn count<F: Fn(u8) -> bool>(is_in: F, chars: &[u8]) -> usize
+    requires { F.IsAlwaysCallable is_in }
+    ensures within { result ≤ length chars.now }
+    ensures value { (p : ℕ → Bool) → Tells p (F.post is_in) → result ≡ counted p chars.now }
 {
-    match class {
-        Class::Alnum => is_alnum(c),
-        Class::Hex => hex_read::digit_of(c) < 16,
-        Class::Blank => is_blank(c),
-        Class::NonBlank => !is_blank(c),
-        Class::Break => is_break(c),
-        Class::NonBreak => !is_break(c),
-    }
-}
-
-// How many characters of the class a text begins with.
-pub fn count(class: Class, chars: &[u8]) -> usize
-    ensures { (result ≡ counted class chars.now) × (result ≤ length chars.now) }
-{
-    let mut i: usize = 0;
-    while i < chars.len() {
-        if !is_in(class, chars[i]) {
-            return i;
-        }
-        i += 1;
-    }
-    i
+    chars.iter().position(|c| !is_in(*c)).unwrap_or(chars.len())
 }
 
 // The number that digits stand for, the first eight of them.
 pub fn number(digits: &[u8]) -> u32
     ensures { result ≡ number_in digits.now }
 {
-    let mut a: u32 = 0;
-    let mut k: usize = 0;
-    while k < digits.len() {
-        if k == DIGITS {
-            return a;
-        }
-        a = a * 16 + ((hex_read::digit_of(digits[k]) % 16) as u32);
-        k += 1;
+    let mut a = 0u32;
+    for c in &digits[..DIGITS.min(digits.len())] {
+        a = a * 16 + u32::from(hex_read::digit_of(*c) % 16);
     }
     a
 }
@@ -119,50 +79,29 @@ pub fn number_word(word: &[u8]) -> u32
 }
 
 // Is it a name?
+#[tactic(auto, unfolding(crate::specs::Words::is_name))]
 pub fn is_name(word: &[u8]) -> bool
     ensures { result ≡ is_name word.now }
 {
-    if word.len() == 0 {
+    let [first, ..] = word else {
+        return false;
+    };
+    if NAME < word.len() || !is_letter(*first) {
         return false;
     }
-    if NAME < word.len() {
-        return false;
-    }
-    if !is_letter(word[0]) {
-        return false;
-    }
-    count(Class::Alnum, word) == word.len()
+    word.iter().all(|c| is_alnum(*c))
 }
 
 // Is it `$` and one to eight digits?
+#[tactic(auto, unfolding(crate::specs::Words::is_number))]
 pub fn is_number(word: &[u8]) -> bool
     ensures { result ≡ is_number word.now }
 {
-    if word.len() < 2 {
+    let [b'$', digits @ ..] = word else {
+        return false;
+    };
+    if digits.is_empty() || DIGITS < digits.len() {
         return false;
     }
-    if NUMBER < word.len() {
-        return false;
-    }
-    if word[0] != b'$' {
-        return false;
-    }
-    count(Class::Hex, &word[1..]) == word.len() - 1
-}
-
-// Are they the same characters?
-pub fn is_same(a: &[u8], b: &[u8]) -> bool
-    ensures { result ≡ same a.now b.now }
-{
-    if a.len() != b.len() {
-        return false;
-    }
-    let mut i: usize = 0;
-    while i < a.len() {
-        if a[i] != b[i] {
-            return false;
-        }
-        i += 1;
-    }
-    true
+    digits.iter().all(|c| is_hex(*c))
 }

@@ -1,6 +1,6 @@
 -- The room that a canonical text needs.
 use Rattle.std.specs.Prelude.{ℕ, List, length}
-use Rattle.window.specs.declared.Entry.{Entry}
+use Rattle.window.specs.Entries.{Entry}
 use Rattle.window.specs.declared.Written.{Written}
 use Rattle.window.specs.Windows.{Window}
 use Rattle.text.specs.Formats.{Format}

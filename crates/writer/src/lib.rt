@@ -32,6 +32,7 @@ pub fn write(
 }
 
 // What a write would answer if its output were just long enough: the length that the text needs, or the row that refuses it.
+#[tactic(auto, using(crate::proofs::WriterLaws::room_long, crate::proofs::WriterLaws::room_refused))]
 pub fn room(
     format: Format,
     base: u32,
@@ -45,9 +46,8 @@ pub fn room(
     // row 17 of a write without an output tells the length
     let mut none = [0u8; 0];
     let written = write(format, base, memory, marks, header, entry, &mut none);
-    let refusal = written.refusal;
-    if refusal.reason == 17 {
-        return text::accepted_write(refusal.place);
+    if written.refusal.reason == 17 {
+        return text::accepted_write(written.refusal.place);
     }
     written
 }

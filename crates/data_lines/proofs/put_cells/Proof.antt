@@ -137,7 +137,7 @@ put-row-requires c κs =
     let t = row_at c in
     let i = t.before.before in
     let q = (row t).1 in
-    ((search rules, (call i).requires.0.0, as_long i _ q ∙ omega arith), omega (arith, room i _ q, row-length t))
+    (((call i).requires.0.0, as_long i _ q ∙ omega arith), omega (arith, room i _ q, row-length t))
 
 next-run-requires : tie.Need-next_run-from-requires invariant-loop decreases-loop
 next-run-requires c κs =

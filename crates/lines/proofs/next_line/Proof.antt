@@ -6,10 +6,9 @@ use mathlib.Core.List.{List}
 use lib.ListN.{length, drop}
 use Rattle.text.specs.Lines.{front}
 use Rattle.formats.specs.Choices.{format_of}
-use Rattle.text.specs.declared.Found.TheVariants.{At}
 use Rattle.text.specs.Finds.{leading}
 use Rattle.lists.proofs.PartLaws.{rest}
-use Rattle.text.proofs.FindLaws.{next_nothing, next_at}
+use Rattle.text.proofs.FindLaws.{stands, next_nothing, next_at}
 use borrow.Author.Rules.{rules}
 use Rattle.lines.proofs.next_line.Statement.{statement}
 use Rattle.lines.proofs.next_line.Tie as tie
@@ -33,7 +32,7 @@ returns-2 c =
     let e = c.before.before.before in
     let n : c.count_chars.result ≡ length (front gap (drop (a.at + e.count_gaps.result) a.text.now))
     = c.count_chars.ensures.0 ∙ ap (λ (l : List ℕ). length (front gap l)) (rest (a.at + e.count_gaps.result) a.text.now) in
-    ap₂ At (ap (λ (k : ℕ). a.at + k) (gaps-at e))
+    ap₂ stands (ap (λ (k : ℕ). a.at + k) (gaps-at e))
     (ap₂ ◌+◌ (ap (λ (k : ℕ). a.at + k) (gaps-at e)) (n ∙ ap (λ (k : ℕ). length (front gap (drop (a.at + k) a.text.now))) (gaps-at e)))
     ∙ next_at gap a.text.now a.at (omega (arith, gaps-at e, c.if-from-text.false, e.count_gaps.ensures.1))
 

@@ -16,7 +16,7 @@ returns c = let m = c.before in rw (m.in-Bytes.is, sym m.has_bad.ensures ∙ c.i
 returns-2 : tie.Need-returns-in-Bytes
 returns-2 c =
     let e = c.before in
-    rw (e.in-Bytes.is, sym e.has_bad.ensures ∙ e.if-not-has_bad.false, c.bad_byte-place.ensures)
+    rw (e.in-Bytes.is, sym e.has_bad.ensures ∙ e.if-not-has_bad.false, c.bad_byte.ensures)
 
 -- how many mark bytes there are, where they are packed
 long : (c : tie.In-Packed) → length c.args.marks.now ≡ byte_count c.args.cells

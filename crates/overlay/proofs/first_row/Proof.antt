@@ -5,7 +5,7 @@ use mathlib.Core.Bool.{false}
 use borrow.Author.Tests.{not-true, not-false}
 use Rattle.window.specs.Windows.{Window, window_of}
 use Rattle.marks.specs.declared.Form.{Form}
-use Rattle.marks.specs.declared.Bad.TheVariants.{Nothing}
+use Rattle.std.specs.Prelude.{None}
 use Rattle.overlay.specs.Refusals.{row1_both_in, bad_of}
 use Rattle.overlay.proofs.RefusalLaws.{AlikeIn, alike_in, row_1, row_15, row_16_base, row_16_patch, no_row}
 use borrow.Author.Rules.{rules}
@@ -59,31 +59,31 @@ short c = c.before
 abbrev first : tie.In_default → tie.After-first_bad-first
 first c = c.before
 
-clean : (c : tie.In_default) → let j = (short (first c)).before.before in Nothing ≡ bad_of (form j) (base j)
+clean : (c : tie.In_default) → let j = (short (first c)).before.before in None ≡ bad_of (form j) (base j)
 clean c = sym c.in_default.is ∙ (first c).first_bad-first.ensures
 
-returns-3 : tie.Need-returns-in-At
+returns-3 : tie.Need-returns-in-Some
 returns-3 c =
     let t = c.before in
     let k = t.before in
     let f = short k in
     let j = f.before.before in
-    c.refuse-in-At.ensures
+    c.refuse-in-Some.ensures
     ∙ row_16_base (row1_both_in (form j) (base j) (patch j)) (start j).args.long (bad_of (form j) (base j)) (bad_of (form j) (patch j)) (fit f.before) f.if-long.false _
-    (sym t.in-At.is ∙ k.first_bad-first.ensures)
+    (sym t.in-Some.is ∙ k.first_bad-first.ensures)
 
 first-bad-requires-2 : tie.Need-first_bad-second-requires
 first-bad-requires-2 c κs = let l = like (short (first c)).before in (omega (arith, l.reach.1), l.patch)
 
-returns-4 : tie.Need-returns-in-At-second
+returns-4 : tie.Need-returns-in-Some-second
 returns-4 c =
     let t = c.before in
     let k = t.before in
     let f = short (first k.before) in
     let j = f.before.before in
-    c.refuse-in-At-second.ensures
+    c.refuse-in-Some-second.ensures
     ∙ row_16_patch (row1_both_in (form j) (base j) (patch j)) (start j).args.long (bad_of (form j) (base j)) (bad_of (form j) (patch j)) (fit f.before) f.if-long.false
-    (clean k.before) _ (sym t.in-At-second.is ∙ k.first_bad-second.ensures)
+    (clean k.before) _ (sym t.in-Some-second.is ∙ k.first_bad-second.ensures)
 
 returns-5 : tie.Need-returns
 returns-5 c =

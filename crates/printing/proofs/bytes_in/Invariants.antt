@@ -1,9 +1,8 @@
-use Rattle.std.proofs.Common.{length, ◌-◌, ◌≡◌, ◌≤◌}
-use Rattle.hex_digits.specs.Tables.{digit_table}
+use Rattle.std.proofs.Common.{length, ◌≤◌}
 use Rattle.printing.proofs.bytes_in.Given as goal
 
-abbrev pub invariant-loop-i : goal.invariant-loop-i
-invariant-loop-i l = (l.table ≡ digit_table) × (l.n ≤ length l.bytes) × (l.i ≤ length l.digits)
+abbrev pub invariant-loop-rest : goal.invariant-loop-rest
+invariant-loop-rest l = l.n ≤ length l.bytes
 
-abbrev pub decreases-loop-i : goal.decreases-loop-i
-decreases-loop-i l = length l.digits - l.i
+abbrev pub decreases-loop-rest : goal.decreases-loop-rest
+decreases-loop-rest l = length l.rest

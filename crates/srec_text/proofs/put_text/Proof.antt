@@ -4,7 +4,7 @@ use native.Mathlib.Omega.{arith}
 use mathlib.Core.List.{List, [], ◌++◌}
 use lib.ListN.{length}
 use borrow.Author.Rules.{rules}
-use Rattle.window.specs.declared.Entry.TheVariants.{Present}
+use Rattle.std.specs.Prelude.{Some}
 use Rattle.window.specs.Windows.{Window, window_of}
 use Rattle.text.specs.Write.{text_of}
 use Rattle.srec.specs.Canonical.{largest}
@@ -36,7 +36,7 @@ module _ (s : tie.Start) where
   from-data = data_text Records s.args.width (shown window) ++ from-count
 
   abbrev whole : List ℕ
-  whole = text_of srec window s.args.header.now (Present s.args.entry)
+  whole = text_of srec window s.args.header.now (Some s.args.entry)
 
   abbrev Left : List ℕ → ℕ → List ℕ → Type 0
   Left rest at out = Pending whole rest 0 at s.args.out.now out

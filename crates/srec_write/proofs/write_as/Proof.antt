@@ -6,7 +6,7 @@ use mathlib.Core.Bool.{false}
 use mathlib.Core.List.{List}
 use lib.ListN.{length}
 use borrow.Author.Tests.{not-true, not-false}
-use Rattle.window.specs.declared.Entry.TheVariants.{Present}
+use Rattle.std.specs.Prelude.{Some}
 use Rattle.window.specs.Windows.{Window, window_of}
 use Rattle.window.specs.Plans.{refusal}
 use Rattle.window.specs.Cells.{shown}
@@ -48,7 +48,7 @@ out c = (start c).args.out.now
 abbrev behind-16 : tie.In_default → tie.Else-header-gt-MOST_HEADER
 behind-16 c = c.before.before
 
-abbrev with-entry : tie.After-text_length-need → tie.In-Present
+abbrev with-entry : tie.After-text_length-need → tie.In-Some-entry
 with-entry c = c.before.before.before
 
 abbrev asked : tie.In_default → Call
@@ -84,16 +84,16 @@ returns-2 c =
 first-bad-requires : tie.Need-first_bad-bad-requires
 first-bad-requires c κs = let f = fits c.before in (omega (arith, f.1), f.0)
 
-returns-3 : tie.Need-returns-in-At
+returns-3 : tie.Need-returns-in-Some
 returns-3 c =
     let at-bad = c.before in
     let at_first = at-bad.before in
     let e = at_first.before in
     let s = e.before.before in
-    let place = at-bad.in-At.place in
-    let q = bad_at_lem (form s) (length (lent s).memory) (lent s).marks place (sym at-bad.in-At.is ∙ at_first.first_bad-bad.ensures) in
-    declines srec (given s) (refusal 16 0 place) c.refused_write-in-At.result (out s)
-    (row_16 (given s) (allowed e.before) e.if-header-gt-MOST_HEADER.false place (q.0, ap (refusal 16 0) (sym q.1))) c.refused_write-in-At.ensures
+    let place = at-bad.in-Some.place in
+    let q = bad_at_lem (form s) (length (lent s).memory) (lent s).marks place (sym at-bad.in-Some.is ∙ at_first.first_bad-bad.ensures) in
+    declines srec (given s) (refusal 16 0 place) c.refused_write-in-Some.result (out s)
+    (row_16 (given s) (allowed e.before) e.if-header-gt-MOST_HEADER.false place (q.0, ap (refusal 16 0) (sym q.1))) c.refused_write-in-Some.ensures
 
 returns-4 : tie.Need-returns-in_default-entry
 returns-4 c =
@@ -103,11 +103,11 @@ returns-4 c =
     (row_18 (asked at_told) (allowed e.before) e.if-header-gt-MOST_HEADER.false (none at_told) c.in_default-entry.is) c.refused_write-in_default-entry.ensures
 
 -- the call and its entry, where an entry is there
-abbrev told : tie.In-Present → tie.In_default
+abbrev told : tie.In-Some-entry → tie.In_default
 told c = c.before
 
-abbrev entry : tie.In-Present → ℕ
-entry c = c.in-Present.start
+abbrev entry : tie.In-Some-entry → ℕ
+entry c = c.in-Some-entry.start
 
 size-of-requires : tie.Need-size_of-size-requires
 size-of-requires c κs = let f = fits (behind-16 (told c)).before in (f.1, f.0)
@@ -124,8 +124,8 @@ text-length-requires c κs =
     (omega (arith, n, f), omega (arith, n, f), e.if-header-gt-MOST_HEADER.false, rw c.width_for-width.ensures (width_is c.size_of-size.result.largest).small)
 
 -- the canonical text
-abbrev text : tie.In-Present → List ℕ
-text c = let k = asked (told c) in text_of srec k.window k.header (Present (entry c))
+abbrev text : tie.In-Some-entry → List ℕ
+text c = let k = asked (told c) in text_of srec k.window k.header (Some (entry c))
 
 needed : (c : tie.After-text_length-need) → c.text_length-need.result ≡ length (text (with-entry c))
 needed c =
@@ -141,7 +141,7 @@ returns-5 c =
     let e = behind-16 (told at_entry_lem) in
     let need = needed at_length in
     declines srec (asked (told at_entry_lem)) (refusal 17 0 (length (text at_entry_lem))) c.refused_write-then-out-need.result (out e.before.before)
-    (row_17 (asked (told at_entry_lem)) (allowed e.before) e.if-header-gt-MOST_HEADER.false (none (told at_entry_lem)) (entry at_entry_lem) at_entry_lem.in-Present.is
+    (row_17 (asked (told at_entry_lem)) (allowed e.before) e.if-header-gt-MOST_HEADER.false (none (told at_entry_lem)) (entry at_entry_lem) at_entry_lem.in-Some-entry.is
     (omega (arith, need, c.if-out-need.true)))
     (rw need at c.refused_write-then-out-need.ensures)
 
@@ -174,7 +174,7 @@ returns-6 c =
     accepts srec (asked (told at_entry_lem)) (text at_entry_lem) c.accepted_write.result (out e.before.before) at_put.put_text.new.out
     at_length.text_length-need.result
     (is_written (asked (told at_entry_lem)) (allowed e.before) e.if-header-gt-MOST_HEADER.false (none (told at_entry_lem)) (entry at_entry_lem)
-    at_entry_lem.in-Present.is (omega (arith, need, at-if3.if-out-need.false)))
+    at_entry_lem.in-Some-entry.is (omega (arith, need, at-if3.if-out-need.false)))
     need c.accepted_write.ensures at_put.put_text.ensures
 
 pub write_as_spec : {M : Type 1} → statement M

@@ -91,16 +91,16 @@ returns c =
 first-bad-requires : tie.Need-first_bad-bad-requires
 first-bad-requires c κs = let f = fits c in (omega (arith, f.1), f.0)
 
-returns-2 : tie.Need-returns-in-At
+returns-2 : tie.Need-returns-in-Some
 returns-2 c =
     let at-bad = c.before in
     let at_first = at-bad.before in
     let e = at_first.before in
     let s = e.before in
-    let place = at-bad.in-At.place in
-    let q = bad_at_lem (form s) (length (lent s).memory) (lent s).marks place (sym at-bad.in-At.is ∙ at_first.first_bad-bad.ensures) in
-    declines (tape (edition s)) (given s) (refusal 16 0 place) c.refused_write-in-At.result (out s)
-    (row_16 (edition s) (given s) (allowed e) place (q.0, ap (refusal 16 0) (sym q.1))) c.refused_write-in-At.ensures
+    let place = at-bad.in-Some.place in
+    let q = bad_at_lem (form s) (length (lent s).memory) (lent s).marks place (sym at-bad.in-Some.is ∙ at_first.first_bad-bad.ensures) in
+    declines (tape (edition s)) (given s) (refusal 16 0 place) c.refused_write-in-Some.result (out s)
+    (row_16 (edition s) (given s) (allowed e) place (q.0, ap (refusal 16 0) (sym q.1))) c.refused_write-in-Some.ensures
 
 returns-3 : tie.Need-returns-then-has_extras
 returns-3 c =

@@ -1,9 +1,8 @@
 use Rattle.std.proofs.Common.{length, ◌-◌, ◌≡◌, ◌≤◌}
-use Rattle.hex_digits.specs.Tables.{digit_table}
 use Rattle.vectors.proofs.run_cases.Given as goal
 
 abbrev pub invariant-loop-at : goal.invariant-loop-at
-invariant-loop-at g l = (l.table ≡ digit_table) × (l.at ≤ length l.cases)
+invariant-loop-at g l = l.at ≤ length l.cases
 
 abbrev pub decreases-loop-at : goal.decreases-loop-at
 decreases-loop-at g l = length l.cases - l.at

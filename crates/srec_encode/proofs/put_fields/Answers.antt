@@ -1,0 +1,11 @@
+-- The pieces that it writes are the line.
+use Rattle.srec.specs.Writing.{summed}
+use Rattle.srec_encode.proofs.EncodeLaws.{line_written}
+use Rattle.srec_encode.proofs.put_fields.Goals as goal
+
+pub returns : goal.returns
+unfolding summed
+returns c =
+    let a = c.args in
+    line_written a.out.now a.kind a.address.now a.bytes.now c.requires.out_len _ _ _ _ _
+    c.put_head.ensures c.put_pairs.ensures c.put_pairs-2.ensures c.check_byte-check.ensures c.put_tail.ensures

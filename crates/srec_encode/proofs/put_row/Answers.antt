@@ -1,0 +1,17 @@
+-- The part that it lends comes back as the record's line, with the address in that width.
+use Rattle.std.proofs.Common.{refl, sym, ◌∙◌}
+use native.Mathlib.Nat.{add-sub_cancel_left}
+use Rattle.lists.proofs.OverLaws.{lent_over}
+use Rattle.hex_write.proofs.PutLaws.{address_field}
+use Rattle.srec_encode.specs.Records.{line_of}
+use Rattle.srec_encode.proofs.EncodeLaws.{length_line}
+use Rattle.srec_encode.proofs.put_row.Goals as goal
+
+pub returns-clause-out_after : goal.returns-clause-out_after
+unfolding line_of
+returns-clause-out_after c =
+    let a = c.args in
+    let line = line_of a.kind a.width a.address a.bytes.now in
+    let written = rw (address_field a.width a.address c.requires.lengths.0) at (rw c.bytes_of-all.ensures at c.put_row_fields.ensures) in
+    rw written
+    (lent_over a.at _ a.out.now line (add-sub_cancel_left a.at _ ∙ sym (length_line a.kind a.width a.address a.bytes.now)))
