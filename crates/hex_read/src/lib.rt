@@ -33,7 +33,7 @@ pub fn digit_of(c: u8) -> u8
 #[derive(Clone, Copy)]
 pub struct DigitTable {
     entries: [u32; 256],
-    ghost right: { entries ≡ digit_table },
+    pub ghost right: { entries ≡ digit_table },
 }
 
 impl DigitTable {

@@ -5,11 +5,14 @@ mod pairs;
 
 ghost use Rattle.std.specs.Prelude.{◌≡◌, ℕ, [], ◌∷◌, ◌+◌, ◌*◌, ◌/◌, ◌%◌, ◌≤◌, ◌<◌, length};
 ghost use Rattle.lists.specs.Lists.{over};
-ghost use Rattle.hex_digits.specs.Digits.{digits_of};
+ghost use Rattle.hex_digits.specs.Digits.{digit, digits_of};
 ghost use Rattle.hex_digits.specs.Numbers.{in_bytes, sum};
 ghost use Rattle.hex_digits.specs.Tables.{pair_of, pair_table};
 
 use pairs::PAIRS;
+
+// A letter digit less its value.
+const CAPITAL: u8 = b'A' - 10;
 
 // So many bytes are written at once.
 const BLOCK: usize = 16;
@@ -31,12 +34,22 @@ fn store_pair(out: &mut [u8], at: usize, pair: u16)
     out[at..at + 2].copy_from_slice(&pair.to_le_bytes());
 }
 
-// Writes a byte as two digits.
+// The digit that is written for a number below 16.
+fn digit_for(n: u8) -> u8
+    requires { n < 16 }
+    ensures { result ≡ digit n }
+{
+    if n < 10 { b'0' + n } else { CAPITAL + n }
+}
+
+// Writes a byte as two digits, each by a test. A checksum is written so: where a test follows a sum, the compiler adds up the bytes of a
+// row as vectors, and one at a time where `pair_of` follows.
 pub fn put_pair(out: &mut [u8], at: usize, byte: u8)
     requires { at + 2 ≤ length out.old }
     ensures { out.new ≡ over out.old at (digits_of (byte ∷ [])) }
 {
-    store_pair(out, at, pair_of(byte));
+    out[at] = digit_for(byte / 16);
+    out[at + 1] = digit_for(byte % 16);
 }
 
 // Writes bytes as the pairs of digits that `pair` gives for them.
@@ -63,7 +76,7 @@ pub fn put_pairs(out: &mut [u8], at: usize, bytes: &[u8])
 #[derive(Clone, Copy)]
 pub struct PairTable {
     entries: [u16; 256],
-    ghost right: { entries ≡ pair_table },
+    pub ghost right: { entries ≡ pair_table },
 }
 
 impl PairTable {

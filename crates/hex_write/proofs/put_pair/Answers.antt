@@ -1,6 +1,7 @@
-use Rattle.std.proofs.Common.{arith}
-use Rattle.hex_write.proofs.BlockLaws.{pair_digits}
+use Rattle.lists.proofs.OverLaws.{over_two}
 use Rattle.hex_write.proofs.put_pair.Goals as goal
 
 pub returns : goal.returns
-returns c = rw (← (pair_digits c.args.byte (omega arith)), ← c.pair_of.ensures) c.store_pair.ensures
+returns c =
+    let a = c.args in
+    rw (c.digit_for.ensures, c.digit_for-2.ensures) (over_two a.out.now a.at _ _ c.requires)

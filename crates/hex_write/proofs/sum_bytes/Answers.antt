@@ -1,5 +1,4 @@
-use Rattle.std.proofs.Common.{◌≡◌, arith, get_or, take_all, ◌∙◌}
-use Rattle.hex_digits.specs.Numbers.{sum}
+use Rattle.std.proofs.Common.{arith}
 use Rattle.hex_write.proofs.PutLaws.{sum_more}
 use Rattle.hex_write.proofs.sum_bytes.Goals as goal
 

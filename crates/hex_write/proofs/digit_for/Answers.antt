@@ -1,0 +1,11 @@
+use borrow.Author.Tests.{lt-ltb, le-ltb}
+use Rattle.hex_digits.specs.Digits.{digit}
+use Rattle.hex_write.proofs.digit_for.Goals as goal
+
+pub returns-then-n-lt10 : goal.returns-then-n-lt10
+unfolding digit
+returns-then-n-lt10 c = rw (lt-ltb _ _ c.if-n-lt10.true)
+
+pub returns-else-n-lt10 : goal.returns-else-n-lt10
+unfolding digit
+returns-else-n-lt10 c = rw (le-ltb _ _ c.if-n-lt10.false)
