@@ -41,14 +41,8 @@ module _ (S : List Symbol) (s : List ℕ) (left at : ℕ) where
   unfolding term_at term_by
   opened e n = rw (e, inner_sum left s (at + 1) n)
 
-  pub term_open : get_or s at 0 ≡ 40 → (left ≡ 0 → ⊥) → (p : Part) → Some p ≡ told S (sum_at (left - 1) s (at + 1)) → closed s p ≡ told S (term_at left s at)
-  term_open e n p q = closed_is S s (sum_at (left - 1) s (at + 1)) p q ∙ opened e n
-
-  -- no sum in them
-  pub term_empty : get_or s at 0 ≡ 40 → (left ≡ 0 → ⊥) → None ≡ told S (sum_at (left - 1) s (at + 1)) → None ≡ told S (term_at left s at)
-  unfolding closed_at
-  term_empty e n q =
-      let b : sum_at (left - 1) s (at + 1) ≡ bad = form_bad S (sum_at (left - 1) s (at + 1)) q in rw b at (opened e n)
+  pub term_open : get_or s at 0 ≡ 40 → (left ≡ 0 → ⊥) → (p : Option Part) → p ≡ told S (sum_at (left - 1) s (at + 1)) → closed s p ≡ told S (term_at left s at)
+  term_open e n p q = rw q (closed_is S s (sum_at (left - 1) s (at + 1)) ∙ opened e n)
 
   -- a name
   pub term_name : (get_or s at 0 ≡ 36 → ⊥) → (get_or s at 0 ≡ 40 → ⊥) → is_letter (get_or s at 0) ≡ true → told S (name_at s at) ≡ told S (term_at left s at)

@@ -20,7 +20,7 @@ fn term(text: &[u8], table: &[u8], at: usize, left: usize) -> Option<Part>
     match *text.get(at)? {
         b'$' => operands::number(text, at + 1),
         b'(' => {
-            let inner = sum(text, table, at + 1, left.checked_sub(1)?)?;
+            let inner = sum(text, table, at + 1, left.checked_sub(1)?);
             operands::close(text, inner)
         }
         c if words::is_letter(c) => operands::name(text, table, at),

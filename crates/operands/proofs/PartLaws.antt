@@ -68,11 +68,10 @@ module _ (S : List Symbol) where
       by_test (eqb (digits_at s at) 0) (λ e. rw e) (λ e. by_test (ltb 8 (digits_at s at)) (λ f. rw (e, f)) (λ f. rw (e, f)))
 
   -- `close` does what the form says
-  pub closed_is : (s : List ℕ) (r : Read) (p : Part) → Some p ≡ told S r → closed s p ≡ told S (closed_at s r)
+  pub closed_is : (s : List ℕ) (r : Read) → closed s (told S r) ≡ told S (closed_at s r)
   unfolding closed closed_at
-  closed_is s (tree t at) p q =
-      let e : p ≡ part_of (verdict S t) at = cc in rw e (by_test (eqb (get_or s at 0) 41) (λ b. rw b) (λ b. rw b))
-  closed_is s bad p q = absurd (cc)
+  closed_is s (tree t at) = by_test (eqb (get_or s at 0) 41) (λ e. rw e) (λ e. rw e)
+  closed_is s bad = refl
 
   -- `join` does what the rows say
   pub joined_is : (sign : ℕ) (a b : Tree) → joined_value (verdict S a) sign (verdict S b) ≡ verdict S (operation sign a b)

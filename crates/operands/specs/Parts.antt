@@ -5,9 +5,10 @@ use Rattle.operands.specs.declared.Part.{Part}
 use Rattle.operands.specs.declared.ValueError.{ValueError}
 use Rattle.operands.specs.declared.ValueError.TheVariants.{UnknownName, OutOfRange}
 
--- behind a part stands the closing bracket
-unfoldable pub closed : List ℕ → Part → Option Part
-closed s p = cond (eqb (get_or s p.next 0) (char ")")) (Some (record { value = p.value; next = p.next + 1 })) None
+-- behind a part of the form stands the closing bracket
+unfoldable pub closed : List ℕ → Option Part → Option Part
+closed s None = None
+closed s (Some p) = cond (eqb (get_or s p.next 0) (char ")")) (Some (record { value = p.value; next = p.next + 1 })) None
 
 -- a sum, or row 27
 abbrev pub sum_value : ℕ → ℕ → Result ℕ ValueError

@@ -95,11 +95,12 @@ pub fn name(text: &[u8], table: &[u8], at: usize) -> Option<Part>
     Some(Part { value, next })
 }
 
-// A sum in brackets is followed by the closing one.
+// A sum in brackets is followed by the closing one; what has not the form is given back.
 #[tactic(auto, using(std::proofs::lemmas::Grind::common_steps), unfolding(crate::specs::Parts::closed))]
-pub fn close(text: &[u8], inner: Part) -> Option<Part>
+pub fn close(text: &[u8], inner: Option<Part>) -> Option<Part>
     ensures { result ≡ closed text.now inner }
 {
+    let inner = inner?;
     match text.get(inner.next) {
         Some(b')') => Some(Part {
             next: inner.next + 1,

@@ -1,7 +1,7 @@
 -- `sum` and `term`, which call each other, meet their contracts: a law for each way out, and for a turn of the loop.
 use mathlib.Core.Path.{sym, ◌∙◌}
 use Rattle.std.proofs.Common.{arith}
-use Rattle.expressions.proofs.SumLaws.{term_end, term_number, term_deep, term_open, term_empty, term_name, term_none, first_bad, first_going, sum_ends, text_ends, other_bad, goes_on}
+use Rattle.expressions.proofs.SumLaws.{term_end, term_number, term_deep, term_open, term_name, term_none, first_bad, first_going, sum_ends, text_ends, other_bad, goes_on}
 use Rattle.expressions.proofs.+sum_term.Goals as goal
 
 pub sum-returns-in_err-so_far : goal.sum-returns-in_err-so_far
@@ -42,19 +42,12 @@ term-returns-in_err-checked_sub-in-40 t c =
     rw c.from_residual-in_err-checked_sub-in-40.ensures
     (term_deep _ _ _ _ (sym (l.1 0) ∙ c.in-40.is) (omega (arith, c.in_err-checked_sub-in-40.ensures)))
 
-pub term-returns-in_err-inner-in-40 : goal.term-returns-in_err-inner-in-40
-term-returns-in_err-inner-in-40 t c =
-    let l = c.in_ok-c.ensures.lookup.3 in
-    let k = c.in_ok-checked_sub-in-40.ensures in
-    rw c.from_residual-in_err-inner-in-40.ensures
-    (term_empty _ _ _ _ (sym (l.1 0) ∙ c.in-40.is) (λ z. omega (arith, k.0)) (rw (k.1) at c.in_err-inner-in-40.ensures))
-
-pub term-returns-in_ok-inner-in-40 : goal.term-returns-in_ok-inner-in-40
-term-returns-in_ok-inner-in-40 t c =
+pub term-returns-in_ok-checked_sub-in-40 : goal.term-returns-in_ok-checked_sub-in-40
+term-returns-in_ok-checked_sub-in-40 t c =
     let l = c.in_ok-c.ensures.lookup.3 in
     let k = c.in_ok-checked_sub-in-40.ensures in
     c.close.ensures
-    ∙ term_open _ _ _ _ (sym (l.1 0) ∙ c.in-40.is) (λ z. omega (arith, k.0)) _ (rw (k.1) at c.in_ok-inner-in-40.ensures)
+    ∙ term_open _ _ _ _ (sym (l.1 0) ∙ c.in-40.is) (λ z. omega (arith, k.0)) _ (rw (k.1) at c.sum-inner.ensures)
 
 pub term-returns-in-36 : goal.term-returns-in-36
 term-returns-in-36 t c =
