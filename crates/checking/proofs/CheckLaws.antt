@@ -17,18 +17,19 @@ use Rattle.window.proofs.ClaimLaws.{claim_refused, claim_granted, claim_marks}
 use Rattle.marks.specs.declared.Form.{Form}
 use Rattle.marks.specs.Forms.{flags, stored, Tidy, marks_in}
 use Rattle.marks.proofs.FormLaws.{flags_are, image_tidy}
-use Rattle.std.specs.Prelude.{Result, Ok, Err}
+use Rattle.std.specs.Prelude.{Result, Ok, Err, None}
 use Rattle.text.specs.declared.State.{State}
 use Rattle.text.specs.declared.Step.{Step}
 use Rattle.text.specs.declared.Step.TheVariants.{Refuse, Pass, Put, Finish}
 use Rattle.text.specs.Lines.{Line, lines}
+use Rattle.text.specs.Finds.{found}
 use Rattle.text.specs.Scan.{State as ScanState, more, ended}
 use Rattle.text.specs.Steps.{state_with, as_step}
 use Rattle.text.specs.Formats.{Format, plan}
 use Rattle.text.proofs.FindLaws.{part, Next}
 use Rattle.text.proofs.FormatLaws.{Limits, Lawful}
 use Rattle.text.proofs.StepLaws.{Counting}
-use Rattle.text.proofs.LeftLaws.{Left, left_start, PutOn, left_refused, left_ended, left_last, left_pass, left_put}
+use Rattle.text.proofs.LeftLaws.{Left, left_start, PutOn, left_none, left_refused, left_ended, left_last, left_pass, left_put}
 use Rattle.checking.specs.declared.Accepted.{Accepted}
 use Rattle.checking.specs.Answers.{checked_as, MarkedBy, ended_as}
 
@@ -77,6 +78,11 @@ module _ {F : Format} {L : Limits} (laws : Lawful F L)
   -- and may be claimed
   pub tidy_now : Tidy form size marks
   tidy_now = image_tidy form g.img size g.long marks g.marks_are
+
+  -- no line is left, and none has ended the text
+  pub row_14 : (marks' : List ℕ) → None ≡ found (lines F.gap at (drop at text))
+      → Told form whole (Err (refusal 14 n.number (length text))) marks'
+  row_14 marks' q = tell form _ whole marks' (left_none laws k g.left q)
 
   module _ {from to : ℕ} (x : Next F.gap text at from to) {step : Step}
       (q : step ≡ as_step from (state_with [] n) (F.step (state_with [] n) (part text from to))) where

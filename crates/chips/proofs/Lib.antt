@@ -1,6 +1,7 @@
 pub mod TestLaws
 pub mod LengthLaws
 pub mod BadLaws
+pub mod FillLaws
 pub mod ReceiveLaws
 pub mod RenewedLaws
 pub mod ShareLaws

@@ -114,7 +114,7 @@ fn is_unfit(k: usize, base: u32, whole: Lengths, chips: &[Lengths; 4]) -> bool
 }
 
 // Rows 21 and 1, by the lengths of the whole and of the chips.
-#[tactic(auto, unfolding(crate::specs::Promises::lengths_checked))]
+#[tactic(auto, using(crate::proofs::LengthLaws::row_21, crate::proofs::LengthLaws::row_1, crate::proofs::LengthLaws::no_row))]
 pub fn check_lengths(k: usize, base: u32, whole: Lengths, chips: &[Lengths; 4]) -> Result<(), Fault>
     ensures { result ≡ lengths_checked k base whole chips.now }
 {

@@ -38,10 +38,16 @@ block_tells cs n s t p q h =
     let b = q (omega arith) in
     (digits_join (2 * n) cs a.0 b.0, omega (arith, sum_split n cs, a.1, b.1))
 
--- a turn of `sum_digits`: whatever tells of what is left tells, with the sum so far, of the whole
-pub block_turn : (cs p rest : List ℕ) (s b : ℕ) → length p ≡ 32 → Tells b p → ((t : ℕ) → Tells t (p ++ rest) → Tells (s + t) cs)
+-- a turn from any place: whatever tells of what is left tells, with the sum so far, of the whole
+pub block_turn : (cs : List ℕ) (i s b : ℕ) → Tells b (take 32 (drop i cs)) → ((t : ℕ) → Tells t (drop i cs) → Tells (s + t) cs)
+    → (t : ℕ) → Tells t (drop (i + 32) cs) → Tells (s + b + t) cs
+block_turn cs i s b p r t q =
+    rw (add_assoc s b t) (r (b + t) (block_tells (drop i cs) 16 b t p (rw (drop-drop 32 i cs) q)))
+
+-- the same, as a turn of `sum_digits` has it: a block, and what is behind it
+pub chunk_turn : (cs p rest : List ℕ) (s b : ℕ) → length p ≡ 32 → Tells b p → ((t : ℕ) → Tells t (p ++ rest) → Tells (s + t) cs)
     → (t : ℕ) → Tells t rest → Tells (s + b + t) cs
-block_turn cs p rest s b h q r t k =
+chunk_turn cs p rest s b h q r t k =
     rw (add_assoc s b t) (r (b + t) (block_tells (p ++ rest) 16 b t (rw (take_at p rest 32 h) q) (rw (drop_at p rest 32 h) k)))
 
 -- its end: the weight of what is left tells

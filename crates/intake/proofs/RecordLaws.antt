@@ -1,18 +1,13 @@
 -- One record, rows 2 to 13: one law for each way out of `take_step`.
 use mathlib.Core.Path.{◌≡◌, refl, sym, ap, ◌∙◌, subst}
-use Prim.Native.Nat.{ℕ, suc, ◌+◌, ◌-◌}
+use Prim.Native.Nat.{ℕ, suc, ◌+◌}
 use native.Mathlib.Numerals.{add-one}
-use native.Mathlib.Omega.{arith}
 use mathlib.Core.Bool.{true, false}
 use mathlib.Core.List.{List, [], ◌∷◌}
 use mathlib.Core.Logic.{⊎_elim}
 use mathlib.Core.Option.{none, some}
 use lib.ListN.{length, take}
-use borrow.Author.Tests.{ne_eqb}
-use Rattle.std.specs.Prelude.{Result, Ok, Err}
-use Rattle.claims.specs.Answers.{row_of, row_or0}
-use Rattle.claims.specs.declared.Clash.{Clash}
-use Rattle.claims.proofs.GrantLaws.{clash_row}
+use borrow.Author.Tests.{eq-eqb, ne_eqb}
 use Rattle.window.specs.Entries.{Entry}
 use Rattle.std.specs.Prelude.{None}
 use Rattle.window.specs.Plans.{refusal_with, refusal, row12}
@@ -27,7 +22,8 @@ use Rattle.text.specs.Steps.{state_with, as_step}
 use Rattle.text.specs.Terms.{header_in}
 use Rattle.text.proofs.FormatLaws.{IsRefusal}
 use Rattle.text.proofs.StepLaws.{Says, step_says}
-use Rattle.srec.specs.Reading.{read}
+use Rattle.srec.specs.Reading.{Read, read}
+use Rattle.srec.specs.Reading.Read.{good, bad}
 use Rattle.srec.specs.Judging.{carried}
 use Rattle.srec.specs.Formats.{srec}
 use Rattle.srec.proofs.SrecFormatLaws.{lawful}
@@ -36,7 +32,7 @@ use Rattle.placing.specs.Stores.{stored_by, Placeable}
 use Rattle.parts.specs.Parts.{Known, Turn, stored, step_turn, record_turn, line_turn}
 use Rattle.parts.specs.Parts.Turn.{halt, next}
 use Rattle.tally.specs.declared.Tally.{Tally}
-use Rattle.tally.specs.Tallies.{state_of, entry_of, known_of}
+use Rattle.tally.specs.Tallies.{state_of, entry_of, known_of, IsGood}
 
 module _ (base place : ℕ) (memory marks : List ℕ) (k : Known) where
   -- a line that is not empty is a record
@@ -95,6 +91,10 @@ module _ (v : Call) where
   abbrev whole : Turn
   whole = record_turn base place chars memory marks s (entry_of t)
 
+  -- row 2
+  pub took_ended : t.ended ≡ true → whole ≡ halt (refusal 2 (number + 1) place)
+  took_ended e = rw (e, add-one)
+
   -- what the step says of the definitions' step
   said : (y : Step) → v.step ≡ y → Says place s y (srec.step s chars)
   said y e =
@@ -105,11 +105,19 @@ module _ (v : Call) where
   carries : (x : ScanStep) → srec.step s chars ≡ x → (IsRefusal x → ⊥) → carried (read chars) ≡ x
   carries x e z = ⊎_elim {C = carried (read chars) ≡ x} (λ r. absurd (z (subst IsRefusal e r))) (λ q. sym q ∙ e) (lawful.says s chars)
 
-  -- what a record of a passed step leaves of a header
+  -- a record of a passed step was read, and what it leaves of a header
   record Passes (n : State) : Type 0 where
     h : List ℕ
     is_next : whole ≡ next (record { state = state_with h n; entry = none }) memory marks
     header_is : header_in (carried (read chars)) (take t.head header) ≡ h
+    good_is : IsGood (read chars)
+
+  good_read : (x : ScanStep) → carried (read chars) ≡ x → (IsRefusal x → ⊥) → IsGood (read chars)
+  good_read x e z = go (read chars) e
+    where
+      go : (r : Read) → carried r ≡ x → IsGood r
+      go (good k a ds) q = tt
+      go (bad f) q = absurd (z (subst IsRefusal q tt))
 
   module _ (not-ended : t.ended ≡ false) where
     turn : (x : ScanStep) → srec.step s chars ≡ x → whole ≡ step_turn base place memory marks s x
@@ -141,14 +149,19 @@ module _ (v : Call) where
           h = s.header;
           is_next = turn skip y.0 ∙ ap (λ (u : ScanState). next (record { state = u; entry = none }) memory marks) (sym y.1);
           header_is = ap (λ (x : ScanStep). header_in x (take t.head header)) (carries skip y.0 (λ z. z));
+          good_is = good_read skip (carries skip y.0 (λ z. z)) (λ z. z);
         })
         (λ y. record {
           h = y.0;
           is_next = turn (title y.0) y.1
               ∙ ap (λ (u : ScanState). next (record { state = u; entry = none }) memory marks) (sym y.2);
           header_is = ap (λ (x : ScanStep). header_in x (take t.head header)) (carries (title y.0) y.1 (λ z. z));
+          good_is = good_read (title y.0) (carries (title y.0) y.1 (λ z. z)) (λ z. z);
         })
         (said (Pass n) q)
+
+    pub took_read : (n : State) → v.step ≡ Pass n → IsGood (read chars)
+    took_read n q = (passes n q).good_is
 
     pub took_pass : (n : State) → v.step ≡ Pass n → (head : ℕ) (header' : List ℕ)
         → take head header' ≡ header_in (carried (read chars)) (take t.head header)
@@ -158,14 +171,14 @@ module _ (v : Call) where
         p.is_next ∙ ap (λ (x : List ℕ). next (record { state = state_with x n; entry = none }) memory marks) (sym (h ∙ p.header_is))
 
     -- a data record
-    module _ (n : State) (a c : ℕ) (q : v.step ≡ Put n a c) (r : Result (Unit {0}) Clash) (claims : row_or0 r ≡ claim_row base marks a c) where
+    module _ (n : State) (a c : ℕ) (q : v.step ≡ Put n a c) (row : ℕ) (claims : row ≡ claim_row base marks a c) where
       abbrev y : Says place s (Put n a c) (srec.step s chars)
       y = said (Put n a c) q
 
       abbrev ds : List ℕ
       ds = y.0
 
-      row_is : row_or0 r ≡ claim_row base marks a (length ds)
+      row_is : row ≡ claim_row base marks a (length ds)
       row_is = claims ∙ ap (claim_row base marks a) y.2
 
       turn_put : whole ≡ stored base (suc number) place memory marks (more_data s (length ds)) a ds
@@ -175,25 +188,21 @@ module _ (v : Call) where
       carries_data = carries (put a ds) y.1 (λ z. z)
 
       -- rows 12 and 13
-      pub took_denied : (clash : Clash) → r ≡ Err clash → whole ≡ halt (refusal (row_of clash) (number + 1) place)
+      pub took_denied : (row ≡ 0 → ⊥) → whole ≡ halt (refusal row (number + 1) place)
       unfolding stored
-      took_denied clash e = turn_put ∙ rw (← row_is, e, ne_eqb (row_of clash) 0 (clash_row clash), add-one)
+      took_denied z = turn_put ∙ rw (← row_is, ne_eqb row 0 z, add-one)
 
-      module _ (u : Unit {0}) (e : r ≡ Ok u) where
-        no_row : claim_row base marks a (length ds) ≡ 0
-        no_row = sym row_is ∙ ap row_or0 e
+      -- its cells are claimed, so there is room for the data
+      pub has_room : length memory ≡ length marks → row ≡ 0 → Placeable base (length memory) (carried (read chars))
+      has_room l z =
+          subst (Placeable base (length memory)) (sym carries_data)
+          (ap (λ (j : ℕ). row12 base j a (length ds)) l ∙ granted_inside base marks a (length ds) (sym row_is ∙ z))
 
-        -- its cells are claimed, so there is room for the data
-        pub has_room : length memory ≡ length marks → Placeable base (length memory) (carried (read chars))
-        has_room l =
-            subst (Placeable base (length memory)) (sym carries_data)
-            (ap (λ (j : ℕ). row12 base j a (length ds)) l ∙ granted_inside base marks a (length ds) no_row)
-
-        -- and the data is stored
-        pub took_stored : (memory' marks' : List ℕ) → memory' ≡ stored_by base memory (carried (read chars)) → marks' ≡ claimed base marks a c
-            → whole ≡ next (known_of (going_on n t.head) header) memory' marks'
-        unfolding stored
-        took_stored memory' marks' m k =
-            turn_put ∙ rw no_row
-            (λ i. next (record { state = sym y.3 i; entry = none }) (sym (m ∙ ap (stored_by base memory) carries_data) i)
-            (sym (k ∙ ap (claimed base marks a) y.2) i))
+      -- and the data is stored
+      pub took_stored : row ≡ 0 → (memory' marks' : List ℕ) → memory' ≡ stored_by base memory (carried (read chars)) → marks' ≡ claimed base marks a c
+          → whole ≡ next (known_of (going_on n t.head) header) memory' marks'
+      unfolding stored
+      took_stored z memory' marks' m k =
+          turn_put ∙ rw (← row_is, eq-eqb row 0 z)
+          (λ i. next (record { state = sym y.3 i; entry = none }) (sym (m ∙ ap (stored_by base memory) carries_data) i)
+          (sym (k ∙ ap (claimed base marks a) y.2) i))

@@ -10,7 +10,7 @@ use Rattle.window.specs.declared.Header.{Header}
 use Rattle.window.specs.declared.Loaded.{Loaded}
 use Rattle.window.specs.Windows.{window_of}
 use Rattle.window.specs.Images.{Image, blank}
-use Rattle.window.specs.Plans.{Summary, refusal, Plan, Outcome, placed}
+use Rattle.window.specs.Plans.{Summary, refusal, Plan, Outcome, placed, Accepts}
 use Rattle.window.specs.Plans.Outcome.{refused, accepted}
 use Rattle.window.proofs.PlanLaws.{Accepted as PlanAccepted, placed_inv}
 use Rattle.marks.specs.declared.Form.{Form}
@@ -44,6 +44,11 @@ Answered form memory marks o r memory' marks' = record {
   memory : memory' ≡ memory_after memory o;
   marks : marks' ≡ marks_left form marks o;
 }
+
+-- a refusal: memory as it was, and all marks cleared
+pub answered_refused : (form : Form) (memory marks : List ℕ) (o : Outcome) (f : Refusal) → o ≡ refused f → (r : Loaded) → r ≡ load_answer (refused f)
+    → (marks' : List ℕ) → marks' ≡ replicate (length marks) 0 → Answered form memory marks o r memory marks'
+answered_refused form memory marks o f e r q marks' m = rw e (record { answer = q; memory = refl; marks = m })
 
 -- a refusal of the check is the outcome's
 told_no : (o : Outcome) (f : Refusal) → Err f ≡ checked_as o → o ≡ refused f
@@ -83,6 +88,10 @@ marks_number form marks cleared (refused f) e = ap (λ (n : ℕ). replicate n 0)
 marks_number form marks cleared (accepted s img) e = refl
 
 module _ (format : Format) (form : Form) (base : ℕ) (memory marks text : List ℕ) {allowed : Bool} (a : allowed ≡ not (row1_in form (window_of base memory marks))) where
+  -- row 1
+  pub row_1 : allowed ≡ false → outcome format form base memory marks text ≡ refused (refusal 1 0 0)
+  row_1 h = rw (sym (not-not (row1_in form (window_of base memory marks))) ∙ ap not (sym a ∙ h))
+
   module _ (h : allowed ≡ true) (cleared : List ℕ) (clear : cleared ≡ replicate (length marks) 0) where
     -- row 1 does not apply
     none : row1_in form (window_of base memory marks) ≡ false
@@ -109,6 +118,10 @@ module _ (format : Format) (form : Form) (base : ℕ) (memory marks text : List 
     marks_are : (marks' : List ℕ) → marks' ≡ marks_left form cleared whole → marks' ≡ marks_left form marks (outcome format form base memory marks text)
     marks_are marks' m =
         m ∙ marks_number form marks cleared whole (ap length clear ∙ length-replicate (length marks) 0) ∙ ap (marks_left form marks) (sym is_placed)
+
+    -- what the check has accepted can be stored
+    pub accepts : (x : Accepted) → Ok x ≡ checked_as whole → Accepts whole
+    accepts x q = let y : Yes whole x = told_yes whole x q in record { sum = y.sum; img = y.img; is = y.is }
 
     -- a refusal of the check
     pub checked_refused : (f : Refusal) (r : Loaded) (marks' : List ℕ) → Err f ≡ checked_as whole → r ≡ load_answer (refused f)

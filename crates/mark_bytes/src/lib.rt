@@ -6,7 +6,7 @@ ghost use Rattle.window.specs.Marks.{is_free};
 ghost use Rattle.window.specs.Windows.{first_bad_mark, row16};
 
 // Sets every byte of a part to a value. `slice::fill` writes the last byte apart, which is slower where the compiler knows the length.
-fn fill(part: &mut [u8], value: u8)
+pub fn fill(part: &mut [u8], value: u8)
     ensures { part.new ≡ replicate (length part.old) value }
 {
     for mark in part.iter_mut() {

@@ -5,7 +5,7 @@ use native.Mathlib.Omega.{arith}
 use mathlib.Core.Bool.{Bool, true, false, not, ◌&&◌, ◌||◌}
 use mathlib.Core.Option.{Option, none, some}
 use lib.Dec.{leb, ltb, eqb, lit≤}
-use borrow.Author.Tests.{eqb-true, eqb-false, eq-eqb, ne_eqb, ltb-true, ltb-false, lt-ltb, le-ltb, le-leb}
+use borrow.Author.Tests.{eqb-true, eqb-false, eq-eqb, ne_eqb, ltb-true, ltb-false, lt-ltb, le-ltb, le-leb, lt-leb}
 use Rattle.srec.specs.Kinds.{Kind, kind_of, type_of, width, has_data, known}
 use Rattle.srec.specs.Kinds.Kind.{S0, Data, S5, End}
 use Rattle.srec.specs.Reading.{row6}
@@ -90,6 +90,10 @@ module _ (c w n count : ℕ) (t : Known c w) where
   -- `fits` answers yes for a type with data
   pub row_6_data : n ≡ 4 + 2 * count → w + 1 ≤ count → c ≤ 51 → row6 (known (kind_of c)) n count ≡ false
   row_6_data h l d = six_last h l ∙ rw (le-leb c 51 d)
+
+  -- for a type without data the count alone decides
+  pub row_6_none : n ≡ 4 + 2 * count → w + 1 ≤ count → 51 < c → row6 (known (kind_of c)) n count ≡ not (eqb count (w + 1))
+  row_6_none h l d = six_last h l ∙ rw (lt-leb c 51 d)
 
   -- what a record that passes row 6 has
   pub row_6_inv : row6 (known (kind_of c)) n count ≡ false → (n ≡ 4 + 2 * count) × (w + 1 ≤ count)

@@ -24,9 +24,10 @@ use Rattle.srec.specs.Reading.Read.{good, bad}
 use Rattle.srec.specs.Judging.{row8, row10, row11, carried, judge, judged}
 use Rattle.srec.specs.Formats.{srec}
 use Rattle.lists.proofs.TestLaws.{by_test}
-use Rattle.srec_fields.specs.Records.{width_or0}
+use Rattle.text.specs.declared.Fault.{Fault}
+use Rattle.srec_fields.specs.Records.{width_or0, as_record}
 use Rattle.srec_fields.proofs.KindLaws.{Known, known_kind, type_of_kind}
-use Rattle.srec_fields.proofs.FieldLaws.{read_fields, Got}
+use Rattle.srec_fields.proofs.FieldLaws.{refused, read_fields, Got}
 
 -- ---- kinds by their character
 
@@ -42,8 +43,10 @@ some_kind c h = go (kind_of c) refl
 pub record Sort (c w : ℕ) (k : Kind) : Type 0 where
   pub s0 : c ≡ 48 → k ≡ S0
   pub s5 : c ≡ 53 → k ≡ S5
-  pub data_is : 49 ≤ c → c ≤ 51 → k ≡ Data w
-  pub end_is : (c ≡ 48 → ⊥) → (c ≡ 53 → ⊥) → (49 ≤ c → c ≤ 51 → ⊥) → k ≡ End w
+  pub data_is : (c ≡ 48 → ⊥) → (c ≡ 53 → ⊥) → c ≤ 53 → k ≡ Data w
+  pub end_is : 53 < c → k ≡ End w
+  pub data_by_type : 49 ≤ c → c ≤ 51 → k ≡ Data w
+  pub end_by_type : (c ≡ 48 → ⊥) → (c ≡ 53 → ⊥) → (49 ≤ c → c ≤ 51 → ⊥) → k ≡ End w
   pub low : 2 ≤ w
   pub high : w ≤ 4
 
@@ -52,32 +55,40 @@ sort : (k : Kind) (c : ℕ) → type_of k ≡ c → 2 ≤ width k → width k �
 sort S0 c e l h = record {
   s0 = λ q. refl;
   s5 = λ q. absurd (omega arith);
-  data_is = λ p q. absurd (omega arith);
-  end_is = λ n m q. absurd (n (sym e));
+  data_is = λ n m q. absurd (n (sym e));
+  end_is = λ q. absurd (omega arith);
+  data_by_type = λ p q. absurd (omega arith);
+  end_by_type = λ n m q. absurd (n (sym e));
   low = l;
   high = h;
 }
 sort (Data w) c e l h = record {
   s0 = λ q. absurd (omega arith);
   s5 = λ q. absurd (omega arith);
-  data_is = λ p q. refl;
-  end_is = λ n m q. absurd (q (omega arith) (omega arith));
+  data_is = λ n m q. refl;
+  end_is = λ q. absurd (omega arith);
+  data_by_type = λ p q. refl;
+  end_by_type = λ n m q. absurd (q (omega arith) (omega arith));
   low = l;
   high = h;
 }
 sort S5 c e l h = record {
   s0 = λ q. absurd (omega arith);
   s5 = λ q. refl;
-  data_is = λ p q. absurd (omega arith);
-  end_is = λ n m q. absurd (m (sym e));
+  data_is = λ n m q. absurd (m (sym e));
+  end_is = λ q. absurd (omega arith);
+  data_by_type = λ p q. absurd (omega arith);
+  end_by_type = λ n m q. absurd (m (sym e));
   low = l;
   high = h;
 }
 sort (End w) c e l h = record {
   s0 = λ q. absurd (omega arith);
   s5 = λ q. absurd (omega arith);
-  data_is = λ p q. absurd (omega arith);
-  end_is = λ n m q. refl;
+  data_is = λ n m q. absurd (omega arith);
+  end_is = λ q. refl;
+  data_by_type = λ p q. absurd (omega arith);
+  end_by_type = λ n m q. refl;
   low = l;
   high = h;
 }
@@ -98,52 +109,101 @@ width_high c h = (sort_of c h).high
 
 -- ---- each answer of `judge`
 
-module _ (place : ℕ) (n : State) (c a count : ℕ) (h : is_known (kind_of c) ≡ true) where
+module _ (place : ℕ) (n : State) (k : Kind) (a count : ℕ) where
   -- the step that the definitions take
   abbrev taken : Step
-  taken = as_step place (state_with [] n) (judge (state_with [] n) (known (kind_of c)) a (replicate count 0))
+  taken = as_step place (state_with [] n) (judge (state_with [] n) k a (replicate count 0))
 
   -- the state behind one record more
   abbrev next : State
   next = numbers (more (state_with [] n) [])
 
   -- an S0 that is not the first record
-  pub row_8 : c ≡ 48 → (n.number ≡ 0 → ⊥) → Refuse 8 place 0 ≡ taken
+  pub row_8 : k ≡ S0 → (n.number ≡ 0 → ⊥) → Refuse 8 place 0 ≡ taken
   unfolding judge row8
-  row_8 e z = rw ((sort_of c h).s0 e, ne_eqb n.number 0 z, add-zero)
+  row_8 e z = rw (e, ne_eqb n.number 0 z, add-zero)
 
   -- an S0 that is the first record
-  pub passed_s0 : c ≡ 48 → n.number ≡ 0 → Pass next ≡ taken
+  pub passed_s0 : k ≡ S0 → n.number ≡ 0 → Pass next ≡ taken
   unfolding judge row8
-  passed_s0 e z = rw ((sort_of c h).s0 e, eq-eqb n.number 0 z)
+  passed_s0 e z = rw (e, eq-eqb n.number 0 z)
 
   -- an S5 with another number
-  pub row_10 : c ≡ 53 → (a ≡ n.records → ⊥) → Refuse 10 place 0 ≡ taken
+  pub row_10 : k ≡ S5 → (a ≡ n.records → ⊥) → Refuse 10 place 0 ≡ taken
   unfolding judge row10
-  row_10 e z = rw ((sort_of c h).s5 e, ne_eqb a n.records z, add-zero)
+  row_10 e z = rw (e, ne_eqb a n.records z, add-zero)
 
   -- an S5 with the right number
-  pub passed_s5 : c ≡ 53 → a ≡ n.records → Pass next ≡ taken
+  pub passed_s5 : k ≡ S5 → a ≡ n.records → Pass next ≡ taken
   unfolding judge row10
-  passed_s5 e z = rw ((sort_of c h).s5 e, eq-eqb a n.records z)
+  passed_s5 e z = rw (e, eq-eqb a n.records z)
 
   -- a terminator, of any width
-  pub finished : (c ≡ 48 → ⊥) → (c ≡ 53 → ⊥) → (49 ≤ c → c ≤ 51 → ⊥) → Finish next (Some a) ≡ taken
+  pub finished : (w : ℕ) → k ≡ End w → Finish next (Some a) ≡ taken
   unfolding judge
-  finished p q r = rw ((sort_of c h).end_is p q r)
+  finished w e = rw e
 
   -- the data passes the end of its own width
-  pub row_11 : 49 ≤ c → c ≤ 51 → 2 ^ (8 * width_or0 (kind_of c)) < a + count → Refuse 11 place 0 ≡ taken
+  pub row_11 : (w : ℕ) → k ≡ Data w → 2 ^ (8 * w) < a + count → Refuse 11 place 0 ≡ taken
   unfolding judge row11
-  row_11 p q l = rw ((sort_of c h).data_is p q, length-replicate, lt-ltb (2 ^ (8 * width_or0 (kind_of c))) (a + count) l, add-zero)
+  row_11 w e l = rw (e, length-replicate, lt-ltb (2 ^ (8 * w)) (a + count) l, add-zero)
 
   -- data within its own width
-  pub stored : 49 ≤ c → c ≤ 51 → a + count ≤ 2 ^ (8 * width_or0 (kind_of c)) → Put (numbers (more_data (state_with [] n) count)) a count ≡ taken
+  pub stored : (w : ℕ) → k ≡ Data w → a + count ≤ 2 ^ (8 * w) → Put (numbers (more_data (state_with [] n) count)) a count ≡ taken
   unfolding judge row11
-  stored p q l = rw ((sort_of c h).data_is p q, length-replicate, le-ltb (2 ^ (8 * width_or0 (kind_of c))) (a + count) l, length-replicate)
+  stored w e l = rw (e, length-replicate, le-ltb (2 ^ (8 * w)) (a + count) l, length-replicate)
+
+-- ---- the same by the type character
+
+module _ (place : ℕ) (n : State) (c a count : ℕ) (h : is_known (kind_of c) ≡ true) where
+  -- the kind of the character, and its address bytes
+  abbrev own : Kind
+  own = known (kind_of c)
+
+  abbrev wide : ℕ
+  wide = width_or0 (kind_of c)
+
+  -- the step that the definitions take
+  abbrev typed : Step
+  typed = taken place n own a count
+
+  -- the state behind one record more
+  abbrev behind : State
+  behind = next place n own a count
+
+  pub row_8_by_type : c ≡ 48 → (n.number ≡ 0 → ⊥) → Refuse 8 place 0 ≡ typed
+  row_8_by_type e z = row_8 place n own a count ((sort_of c h).s0 e) z
+
+  pub passed_s0_by_type : c ≡ 48 → n.number ≡ 0 → Pass behind ≡ typed
+  passed_s0_by_type e z = passed_s0 place n own a count ((sort_of c h).s0 e) z
+
+  pub row_10_by_type : c ≡ 53 → (a ≡ n.records → ⊥) → Refuse 10 place 0 ≡ typed
+  row_10_by_type e z = row_10 place n own a count ((sort_of c h).s5 e) z
+
+  pub passed_s5_by_type : c ≡ 53 → a ≡ n.records → Pass behind ≡ typed
+  passed_s5_by_type e z = passed_s5 place n own a count ((sort_of c h).s5 e) z
+
+  pub finished_by_type : (c ≡ 48 → ⊥) → (c ≡ 53 → ⊥) → (49 ≤ c → c ≤ 51 → ⊥) → Finish behind (Some a) ≡ typed
+  finished_by_type p q r = finished place n own a count wide ((sort_of c h).end_by_type p q r)
+
+  pub row_11_by_type : 49 ≤ c → c ≤ 51 → 2 ^ (8 * wide) < a + count → Refuse 11 place 0 ≡ typed
+  row_11_by_type p q l = row_11 place n own a count wide ((sort_of c h).data_by_type p q) l
+
+  pub stored_by_type : 49 ≤ c → c ≤ 51 → a + count ≤ 2 ^ (8 * wide) → Put (numbers (more_data (state_with [] n) count)) a count ≡ typed
+  stored_by_type p q l = stored place n own a count wide ((sort_of c h).data_by_type p q) l
 
 -- the answers of `judge`
-pub ruleset judge_laws = (row_8, passed_s0, row_10, passed_s5, finished, row_11, stored, width_low, width_high)
+pub ruleset judge_laws = (
+  row_8_by_type,
+  passed_s0_by_type,
+  row_10_by_type,
+  passed_s5_by_type,
+  finished_by_type,
+  row_11_by_type,
+  stored_by_type,
+  width_low,
+  width_high,
+)
 
 -- ---- the numbers decide the step
 
@@ -173,6 +233,11 @@ module _ (place : ℕ) (n : State) (chars : List ℕ) where
       let long = g.fields.long in
       (omega (arith, room.0, long), omega (arith, room.1, long), omega (arith, room.2, long, g.len), omega (arith, g.small.1))
 
+  -- all that `judge` asks
+  pub judge_fits : {kind a count : ℕ} → Got chars kind a count → CanCount n (length chars)
+      → (is_known (kind_of kind) ≡ true) × (n.number + 1 < 2 ^ 64) × (n.records + 1 < 2 ^ 64) × (n.cells + count < 2 ^ 64) × (count < 2 ^ 32)
+  judge_fits g room = let fit = counts_fit g room in (type_known g, fit.0, fit.1, fit.2, fit.3)
+
   -- a record that was read is judged
   pub step_good : {kind a count : ℕ} → Got chars kind a count → (r : Step)
       → r ≡ as_step place (state_with [] n) (judge (state_with [] n) (known (kind_of kind)) a (replicate count 0)) → r ≡ whole
@@ -180,6 +245,16 @@ module _ (place : ℕ) (n : State) (chars : List ℕ) where
       q ∙ (λ i. as_step place (state_with [] n) (judge (state_with [] n) (known (g.known_is i)) a (replicate (sym g.len i) 0)))
       ∙ judge_numbers place (state_with [] n) g.k a g.ds
       ∙ ap (λ (x : Read). as_step place (state_with [] n) (judged (state_with [] n) x)) (sym g.is)
+
+  -- a record that cannot be read is refused where its row says
+  pub step_bad : (reason at want : ℕ) → refused reason at want ≡ as_record place (read chars) → Refuse reason at want ≡ whole
+  step_bad reason at want q = go (read chars) q
+    where
+      go : (r : Read) → refused reason at want ≡ as_record place r → Refuse reason at want ≡ as_step place (state_with [] n) (judged (state_with [] n) r)
+      go (good k a ds) e = absurd (let z : ◌≡◌ {A = ℕ} 0 1 = cc in omega arith)
+      go (bad f) e =
+          let same : ◌≡◌ {A = Fault} (record { row = reason; place = at; want = want }) (record { row = f.reason; place = place + f.offset; want = f.want }) = cc in
+          ap (λ (x : Fault). Refuse x.row x.place x.want) same
 
 -- ---- S-records count
 

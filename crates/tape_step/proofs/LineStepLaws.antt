@@ -1,4 +1,4 @@
--- Rows 7, 10 and 11 by numbers, and what an answer says of the step that the definitions take.
+-- Rows 7, 10 and 11 by numbers: each answer of `judge`, and what an answer says of the step that the definitions take.
 use mathlib.Core.Path.{◌≡◌, refl, sym, ap, ◌∙◌, subst}
 use Prim.Native.Nat.{ℕ, ◌+◌, ◌^◌, ◌≤◌, ◌<◌}
 use native.Mathlib.Nat.{add-zero}
@@ -7,26 +7,49 @@ use mathlib.Core.Bool.{false}
 use mathlib.Core.List.{List, [], ◌∷◌}
 use lib.Dec.{eqb}
 use lib.ListN.{length, take, drop, length-take, length-drop}
-use borrow.Author.Tests.{ne_eqb}
+use borrow.Author.Tests.{eq-eqb, ne_eqb, lt-ltb, le-ltb}
 use Rattle.lists.proofs.TestLaws.{by_test, Of, either}
 use Rattle.hex_digits.specs.Digits.{bytes, first_bad}
 use Rattle.text.specs.declared.State.{State}
 use Rattle.text.specs.declared.Step.{Step}
-use Rattle.text.specs.declared.Step.TheVariants.{Refuse}
-use Rattle.text.specs.Scan.{Step as ScanStep}
+use Rattle.text.specs.declared.Step.TheVariants.{Refuse, Put, Finish}
+use Rattle.text.specs.Scan.{Step as ScanStep, more, more_data}
 use Rattle.text.specs.Scan.Step.{refuse, skip, title, put, finish}
-use Rattle.text.specs.Steps.{CanCount, state_with, as_step}
+use Rattle.text.specs.Steps.{CanCount, numbers, state_with, as_step}
 use Rattle.text.proofs.StepLaws.{Counting}
 use Rattle.tape.specs.declared.Edition.{Edition}
 use Rattle.tape.specs.Reading.{Read, fault, length_in, data_in, covered, check_in, is_last, row3, row4, row5, row6, read}
 use Rattle.tape.specs.Reading.Read.{good, bad}
 use Rattle.tape.specs.Judging.{check_of, row7, row10, row11, carries, carried, judge, judged}
 use Rattle.tape.specs.Formats.{tape}
-use Rattle.std.specs.Prelude.{Err}
+use Rattle.std.specs.Prelude.{None, Err}
 use Rattle.text.specs.declared.Fault.{Fault}
 use Rattle.tape_read.specs.Answers.{as_line}
 use Rattle.tape_step.specs.Answers.{passing}
 use Rattle.tape_read.proofs.LineFieldLaws.{bs, length_data, LineGot}
+
+-- ---- each answer of `judge`
+
+module _ (place : ℕ) (n : State) (a len : ℕ) where
+  -- the last line has another number
+  pub row_10 : len ≡ 0 → (a ≡ n.records → ⊥) → Refuse 10 place 0 ≡ passing place n a len
+  unfolding passing row10
+  row_10 z h = rw (eq-eqb len 0 z, ne_eqb a n.records h)
+
+  -- the last line
+  pub ended : len ≡ 0 → a ≡ n.records → Finish (numbers (more (state_with [] n) [])) None ≡ passing place n a len
+  unfolding passing row10
+  ended z h = rw (eq-eqb len 0 z, eq-eqb a n.records h)
+
+  -- the data passes 2^16
+  pub row_11 : (len ≡ 0 → ⊥) → 65536 < a + len → Refuse 11 place 0 ≡ passing place n a len
+  unfolding passing row11
+  row_11 z h = rw (ne_eqb len 0 z, lt-ltb (2 ^ 16) (a + len) h)
+
+  -- a data line
+  pub stored : (len ≡ 0 → ⊥) → a + len ≤ 65536 → Put (numbers (more_data (state_with [] n) len)) a len ≡ passing place n a len
+  unfolding passing row11
+  stored z h = rw (ne_eqb len 0 z, le-ltb (2 ^ 16) (a + len) h)
 
 -- ---- the step of a line
 

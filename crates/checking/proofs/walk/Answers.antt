@@ -1,11 +1,11 @@
 -- `walk` meets its contract: each way out and each way round is one law of CheckLaws.
-use Rattle.std.proofs.Common.{refl, arith}
-use Rattle.text.proofs.StepLaws.{line_taken}
+use Rattle.std.proofs.Common.{refl, sym, ◌∙◌, arith}
+use Rattle.text.proofs.StepLaws.{none_taken, line_taken}
 use Rattle.formats.specs.Choices.{format_of}
 use Rattle.formats.proofs.ChoiceLaws.{lawful_of}
 use Rattle.steps.proofs.ChosenLaws.{counting_of}
 use Rattle.claims.proofs.GrantLaws.{clash_row}
-use Rattle.checking.proofs.CheckLaws.{going_start, tidy_now, told_refused, last_few, told_ended, going_pass, told_claim, going_put}
+use Rattle.checking.proofs.CheckLaws.{going_start, tidy_now, row_14, told_refused, last_few, told_ended, going_pass, told_claim, going_put}
 use Rattle.checking.proofs.walk.Goals as goal
 
 pub loop-from-init : goal.loop-from-init
@@ -63,3 +63,9 @@ loop-from-preserved c =
     let line = line_taken (format_of c.args.format) _ _ _ _ _ _ g.left.inside c.in-Some.ensures in
     going_put (lawful_of c.args.format) (counting_of c.args.format) g line.0 line.1 c.in-Put.is c.in_default-claim.ensures.answer _ refl
     c.claim.ensures.marks
+
+pub returns : goal.returns
+returns c =
+    rw c.refuse-2.ensures
+    (row_14 (lawful_of c.args.format) (counting_of c.args.format) c.loop-from.invariant _
+    (none_taken (format_of c.args.format) c.loop-from.state c.args.text.now c.loop-from.at (sym c.in_default.is ∙ c.take_next.ensures)))

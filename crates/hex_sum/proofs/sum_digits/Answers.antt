@@ -3,7 +3,7 @@ use Rattle.std.proofs.lemmas.List.{length_push}
 use Rattle.std.specs.Slice.Iter.{chunks_exact_rest}
 use Rattle.hex_digits.specs.Tables.{weighed}
 use Rattle.hex_read.proofs.TurnLaws.{behind_part}
-use Rattle.hex_sum.proofs.SumLaws.{block_turn, weight_tells}
+use Rattle.hex_sum.proofs.SumLaws.{chunk_turn, weight_tells}
 use Rattle.hex_sum.proofs.sum_digits.Goals as goal
 
 pub loop-block-preserved : goal.loop-block-preserved
@@ -21,7 +21,7 @@ loop-block-preserved c =
       left = rw m (behind_part 32 cs p _ (length l.yielded) (sym l.invariant.left ∙ s.1.0) whole);
       long = omega arith;
       small = omega (arith, b.1);
-      so_far = block_turn cs p (chunks_exact_rest c.next.new.self) l.sum c.sum_block-sum.result whole b.0 (λ t h. l.invariant.so_far t (rw s.1.0 h));
+      so_far = chunk_turn cs p (chunks_exact_rest c.next.new.self) l.sum c.sum_block-sum.result whole b.0 (λ t h. l.invariant.so_far t (rw s.1.0 h));
     }
 
 pub returns : goal.returns

@@ -2,7 +2,8 @@
 use mathlib.Core.Path.{refl, sym, ap, ◌∙◌, subst}
 use lib.ListN.{length}
 use Rattle.marks.specs.Forms.{flags, Tidy}
-use Rattle.claims.proofs.GrantLaws.{claimed_flags, claimed_tidy}
+use Rattle.claims.specs.Answers.{row_or0}
+use Rattle.claims.proofs.GrantLaws.{clash_row, claimed_flags, claimed_tidy}
 use Rattle.intake.proofs.RecordLaws.{Call, took_refused, took_finish, took_pass, took_denied, has_room, took_stored}
 use Rattle.intake.proofs.take_step.Goals.{Else-tally}
 use Rattle.intake.proofs.take_step.Goals as goal
@@ -42,12 +43,12 @@ pub returns-in-Err-clause-took : goal.returns-in-Err-clause-took
 returns-in-Err-clause-took c =
     let j = (goal.at.returns-in-Err-clause-took c).Else-tally in
     rw (c.refuse-in-Err.ensures, c.row.ensures)
-    (took_denied (call j) c.if-tally.false _ _ _ c.in-Put.is _ c.claim-claimed.ensures.answer _ c.in-Err.is, refl)
+    (took_denied (call j) c.if-tally.false _ _ _ c.in-Put.is _ (sym (ap row_or0 c.in-Err.is) ∙ c.claim-claimed.ensures.answer) (clash_row c.in-Err.clash), refl)
 
 pub place_record-requires : goal.place_record-requires
 place_record-requires c =
     let j = (goal.at.place_record-requires c).Else-tally in
-    has_room (call j) c.if-tally.false _ _ _ c.in-Put.is _ c.claim-claimed.ensures.answer _ c.in_default.is (sym c.requires.digits_bound.0.0)
+    has_room (call j) c.if-tally.false _ _ _ c.in-Put.is _ c.claim-claimed.ensures.answer (sym c.requires.digits_bound.0.0) (ap row_or0 c.in_default.is)
 
 pub returns-in_default-clause-took : goal.returns-in_default-clause-took
 returns-in_default-clause-took c =
@@ -57,7 +58,7 @@ returns-in_default-clause-took c =
     let marks_are = ap (flags a.form n) c.claim-claimed.ensures.marks
     ∙ claimed_flags n a.marks.now a.base c.in-Put.address c.in-Put.count a.form c.requires.digits_bound.0 in
     rw c.going_on-in-Put.ensures
-    (took_stored (call j) c.if-tally.false _ _ _ c.in-Put.is _ c.claim-claimed.ensures.answer _ c.in_default.is _ _ c.place_record.ensures marks_are)
+    (took_stored (call j) c.if-tally.false _ _ _ c.in-Put.is _ c.claim-claimed.ensures.answer (ap row_or0 c.in_default.is) _ _ c.place_record.ensures marks_are)
 
 pub returns-in_default-clause-tidy_turn : goal.returns-in_default-clause-tidy_turn
 returns-in_default-clause-tidy_turn c =

@@ -1,7 +1,15 @@
 -- `load_as` meets its contract: row 1, then a refusal of the check, or what the storing pass leaves.
-use Rattle.std.proofs.Common.{arith}
-use Rattle.loader.proofs.LoaderLaws.{cleared_is, marks_few, checked_refused, checked_accepted}
+use Rattle.std.proofs.Common.{sym, ap, ◌∙◌, arith}
+use Rattle.window.specs.Plans.Outcome.{refused}
+use Rattle.loader.proofs.LoaderLaws.{answered_refused, row_1, cleared_is, marks_few, checked_refused, checked_accepted}
 use Rattle.loader.proofs.load_as.Goals as goal
+
+pub returns-then-not-allowed : goal.returns-then-not-allowed
+returns-then-not-allowed c =
+    let a = c.args in
+    answered_refused a.form a.memory.now a.marks.now _ _
+    (row_1 a.format a.form a.base a.memory.now a.marks.now a.text.now c.is_allowed-allowed.ensures c.if-not-allowed.true ∙ ap refused (sym c.refuse.ensures))
+    _ c.refused_answer.ensures _ c.clear.ensures
 
 pub check-requires : goal.check-requires
 check-requires c =
