@@ -106,7 +106,7 @@ module _ (S : List Symbol) (s : List ℕ) (left at : ℕ) where
           ap (told S) (sym (more_bad (term_at left s) s (g.fuel - 1)) ∙ (rw b at on))
 
       -- it has: a turn of the loop
-      pub goes_on : (o : Part) → Some o ≡ told S (term_at left s (p.next + 1)) → (r : Part) → r ≡ joined p c o → (p.next < r.next) × Going r
+      pub goes_on : (o : Part) → Some o ≡ told S (term_at left s (p.next + 1)) → (r : Part) → r ≡ joined (Some p) c (Some o) → (p.next < r.next) × Going r
       goes_on o q r j =
           let k : Took S (term_at left s (p.next + 1)) o = form_good S (term_at left s (p.next + 1)) o q in
           let far : Past (p.next + 1 + 1) (tree k.of o.next) = rw k.is at (past_term left s (p.next + 1)) in

@@ -39,7 +39,7 @@ fn sum(text: &[u8], table: &[u8], at: usize, left: usize) -> Option<Part>
             break;
         }
         let other = term(text, table, so_far.next + 1, left)?;
-        so_far = operands::join(so_far, sign, other);
+        so_far = operands::join(Some(so_far), sign, Some(other));
     }
     Some(so_far)
 }

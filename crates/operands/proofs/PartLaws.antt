@@ -6,7 +6,8 @@ use mathlib.Core.List.{List, []}
 use mathlib.Core.Option.{Option, none, some}
 use lib.Dec.{leb, ltb, eqb}
 use lib.ListN.{get_or}
-use Rattle.std.specs.Prelude.{Some, None, Err}
+use Rattle.std.specs.Prelude.{Some, None, Ok, Err}
+use Rattle.std.specs.Prelude as std
 use Rattle.lists.proofs.TestLaws.{by_test}
 use Rattle.symbol_table.specs.Symbols.{Symbol}
 use Rattle.operands.specs.declared.Part.{Part}
@@ -15,11 +16,18 @@ use Rattle.operands.specs.Trees.{Tree, operation}
 use Rattle.operands.specs.Reading.{Read, digits_at, number_at, closed_at}
 use Rattle.operands.specs.Reading.Read.{tree, bad}
 use Rattle.operands.specs.Values.{known, added, taken, value, ranged, verdict, part_of, told}
-use Rattle.operands.specs.Parts.{closed, joined_value}
+use Rattle.operands.specs.Parts.{closed, joined_value, joined}
 
 -- ---- a sign between two values
 
 module _ (sign : ℕ) where
+  -- what has not the form counts as 0 at place 0, before the sign and after it
+  pub malformed_first : (b : std.Option Part) → joined None sign b ≡ joined (Some (part_of (Ok 0) 0)) sign b
+  malformed_first b = refl
+
+  pub malformed_second : (a : std.Option Part) → joined a sign None ≡ joined a sign (Some (part_of (Ok 0) 0))
+  malformed_second a = refl
+
   -- row 26 of either comes first
   names : (k l : Bool) (v w u : Option ℕ) → joined_value (ranged v) sign (ranged w) ≡ ranged u
       → joined_value (cond k (ranged v) (Err UnknownName)) sign (cond l (ranged w) (Err UnknownName)) ≡ cond (k && l) (ranged u) (Err UnknownName)

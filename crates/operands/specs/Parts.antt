@@ -27,6 +27,11 @@ joined_value (Err OutOfRange) sign (Ok w) = Err OutOfRange
 joined_value (Ok v) sign (Err e) = Err e
 joined_value (Ok v) sign (Ok w) = cond (eqb sign (char "+")) (sum_value v w) (difference_value v w)
 
+-- a part of the form; what has not the form counts as 0 at place 0
+abbrev pub part_or0 : Option Part → Part
+part_or0 None = record { value = Ok 0; next = 0 }
+part_or0 (Some p) = p
+
 -- two parts under a sign
-abbrev pub joined : Part → ℕ → Part → Part
-joined a sign b = record { value = joined_value a.value sign b.value; next = b.next }
+abbrev pub joined : Option Part → ℕ → Option Part → Part
+joined a sign b = record { value = joined_value (part_or0 a).value sign (part_or0 b).value; next = (part_or0 b).next }

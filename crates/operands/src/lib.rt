@@ -55,6 +55,11 @@ pub struct Part {
     pub next: usize,
 }
 
+const ZERO: Part = Part {
+    value: Ok(0),
+    next: 0,
+};
+
 // `+` or `-`?
 #[tactic(auto, unfolding(crate::specs::Reading::is_sign))]
 pub fn is_sign(c: u8) -> bool
@@ -110,10 +115,12 @@ pub fn close(text: &[u8], inner: Option<Part>) -> Option<Part>
     }
 }
 
-// Two parts under a sign: names come before sums.
-pub fn join(a: Part, sign: u8, b: Part) -> Part
+// Two parts under a sign: names come before sums. What has not the form counts as 0 at place 0.
+pub fn join(a: Option<Part>, sign: u8, b: Option<Part>) -> Part
     ensures { result ≡ joined a sign b }
 {
+    let a = a.unwrap_or(ZERO);
+    let b = b.unwrap_or(ZERO);
     let value = match (a.value, b.value) {
         (Err(ValueError::UnknownName), _) | (_, Err(ValueError::UnknownName)) => {
             Err(ValueError::UnknownName)
