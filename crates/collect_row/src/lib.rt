@@ -3,7 +3,25 @@
 
 ghost use Rattle.std.specs.Prelude.{◌+◌, ◌*◌, ◌/◌, ◌≤◌, length};
 ghost use Rattle.chips.specs.Boards.{buffers_of, board_of};
+ghost use Rattle.chips.specs.Promises.{Receivable, Received};
 ghost use Rattle.collect_row.specs.Collecting.{Ready, Collects};
+
+// A whole row of two chips has so many cells.
+const TWO: usize = 32;
+
+// And one of four chips.
+const FOUR: usize = 64;
+
+// Receives a row of `k` chips, each number of chips by a call of its own.
+fn receive_block(k: usize, memory: &mut [u8], marks: &mut [u8], cells: &[u8], flags: &[u8])
+    requires { Receivable memory.old marks.old cells.now flags.now }
+    ensures { Received memory.old cells.now flags.now memory.new marks.new }
+{
+    match k {
+        2 => receiving::receive_row::<TWO>(memory, marks, cells, flags),
+        _ => receiving::receive_row::<FOUR>(memory, marks, cells, flags),
+    }
+}
 
 // Collects one row: `size` cells of each chip, from cell `at` of each chip on.
 pub fn collect_row(
@@ -29,7 +47,8 @@ pub fn collect_row(
     let cells = blocks::rows_at(memory0, memory1, memory2, memory3, k, at, size);
     let flags = blocks::rows_at(marks0, marks1, marks2, marks3, k, at, size);
     let (block, marked) = blocks::blocks_of(&cells, &flags, k, size);
-    receiving::receive_row(
+    receive_block(
+        k,
         &mut memory[from..end],
         &mut marks[from..end],
         &block,

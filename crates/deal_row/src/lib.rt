@@ -7,7 +7,11 @@ ghost use Rattle.chips.specs.Boards.{buffers_of, board_of};
 ghost use Rattle.chips.specs.Promises.{Renewed};
 ghost use Rattle.deal_row.specs.Dealing.{Ready, Dealt};
 
+// A whole row of one chip has so many cells.
+const ROW: usize = 16;
+
 // Puts a chip's row into its buffers, from `at` on; those of a chip that is not used are empty.
+#[inline(always)]
 fn put_row(
     memory: &mut [u8],
     marks: &mut [u8],
@@ -23,7 +27,7 @@ fn put_row(
         return;
     }
     let to = at + size;
-    receiving::receive_row(&mut memory[at..to], &mut marks[at..to], cells, flags);
+    receiving::receive_row::<ROW>(&mut memory[at..to], &mut marks[at..to], cells, flags);
 }
 
 // Deals one row: `size` cells a chip, from cell `at` of each chip on.

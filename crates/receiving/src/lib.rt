@@ -53,16 +53,22 @@ fn receive(memory: &mut [u8], marks: &mut [u8], cells: &[u8], flags: &[u8], size
     marks.copy_from_slice(&kept[..size]);
 }
 
-// Receives as many cells as the part that is lent has. All marks are written, and the bytes of unmarked cells stay. Whole rows of one, two
-// and four chips are named by their sizes, so that the compiler unrolls them.
-pub fn receive_row(memory: &mut [u8], marks: &mut [u8], cells: &[u8], flags: &[u8])
+// Receives as many cells as the part that is lent has. All marks are written, and the bytes of unmarked cells stay. A whole row is named by
+// its size, so that the compiler unrolls it.
+#[inline(always)]
+pub fn receive_row<const WHOLE: usize>(
+    memory: &mut [u8],
+    marks: &mut [u8],
+    cells: &[u8],
+    flags: &[u8],
+)
     requires { Receivable memory.old marks.old cells.now flags.now }
     ensures { Received memory.old cells.now flags.now memory.new marks.new }
 {
-    match memory.len() {
-        16 => receive(memory, marks, cells, flags, 16),
-        32 => receive(memory, marks, cells, flags, 32),
-        64 => receive(memory, marks, cells, flags, 64),
-        size => receive(memory, marks, cells, flags, size),
+    let size = memory.len();
+    if size == WHOLE {
+        receive(memory, marks, cells, flags, WHOLE)
+    } else {
+        receive(memory, marks, cells, flags, size)
     }
 }

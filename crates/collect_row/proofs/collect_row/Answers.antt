@@ -17,8 +17,8 @@ rows_at-flags-requires c =
     let b = board_of a.memory0.now a.marks0.now a.memory1.now a.marks1.now a.memory2.now a.marks2.now a.memory3.now a.marks3.now in
     row_asks _ _ _ r a.at a.size c.requires.0 c.requires.1 (λ n. (chip_at b n).marks) (λ n u. (r.shares n u).1)
 
-pub receive_row-requires : goal.receive_row-requires
-receive_row-requires c =
+pub receive_block-requires : goal.receive_block-requires
+receive_block-requires c =
     let a = c.args in
     let e = c.blocks_of.ensures in
     receivable _ _ _ c.requires.2 a.at a.size c.requires.0 c.requires.1 _ _ _ _ e.0.0 e.1.0 e.0.1 e.1.1 c.rows_at-cells.ensures c.rows_at-flags.ensures
@@ -27,4 +27,4 @@ pub returns : goal.returns
 returns c =
     let a = c.args in
     let e = c.blocks_of.ensures in
-    row_collected _ _ _ c.requires.2 a.at a.size c.requires.0 c.requires.1 _ _ _ _ e.0.0 e.1.0 e.0.1 e.1.1 c.rows_at-cells.ensures c.rows_at-flags.ensures _ _ c.receive_row.ensures
+    row_collected _ _ _ c.requires.2 a.at a.size c.requires.0 c.requires.1 _ _ _ _ e.0.0 e.1.0 e.0.1 e.1.1 c.rows_at-cells.ensures c.rows_at-flags.ensures _ _ c.receive_block.ensures
