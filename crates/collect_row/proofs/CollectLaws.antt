@@ -12,7 +12,7 @@ use Rattle.lists.proofs.PartLaws.{part_long}
 use Rattle.window.specs.Windows.{row16}
 use Rattle.chips.specs.Shares.{share}
 use Rattle.chips.specs.Boards.{Buffers, Board, buffers_of, chip_at}
-use Rattle.chips.specs.Promises.{Count, Receivable, Received}
+use Rattle.chips.specs.Promises.{Count, Renewed, Receivable, Received}
 use Rattle.chips.proofs.PutLaws.{part_received}
 use Rattle.chips.proofs.TestLaws.{some_chips, at_most_four}
 use Rattle.chips.proofs.ShareLaws.{Even, even, row_end, row_low, row_high, share_in}
@@ -33,11 +33,11 @@ module _ (k : ℕ) (whole : Buffers) (b : Board) (r : Ready k whole b) (at size 
   e : Even k n
   e = ready_even k whole b r
 
-  ends : k * (at + size) ≤ n
+  pub ends : k * (at + size) ≤ n
   ends = row_end k n at size e room
 
   -- a row has at most 64 cells
-  small : k * (at + size) - k * at ≤ 64
+  pub small : k * (at + size) - k * at ≤ 64
   small = omega (arith, mul-le-mul_left k few, at_most_four k r.count)
 
   -- one list of each chip: its memory, or its marks
@@ -49,7 +49,7 @@ module _ (k : ℕ) (whole : Buffers) (b : Board) (r : Ready k whole b) (at size 
     own = by_four (λ c. get_or chips c [] ≡ lists c) refl refl refl refl
 
     -- each of the k chips has the row
-    has_row : Reach k (at + size) chips
+    pub has_row : Reach k (at + size) chips
     has_row c u =
         let v : c < 4 = omega (arith, at_most_four k r.count) in
         rw (own c v, long c v, share_in k c n u) room
@@ -74,9 +74,8 @@ module _ (k : ℕ) (whole : Buffers) (b : Board) (r : Ready k whole b) (at size 
           ap (λ (x : ℕ). get_or block x 0) t ∙ q c i u (omega arith)
           ∙ p c u i (omega arith) ∙ (λ x. get_or (own c v x) (s x) 0)
 
-  -- what `receive_row` asks for, and what it leaves
-  module _ (cells flags : List ℕ) (rows marked : List (List ℕ)) (long₀ : length cells ≡ 64) (long₁ : length flags ≡ 64)
-      (b₀ : BlockOf k size rows cells) (b₁ : BlockOf k size marked flags)
+  -- what `receive_row` asks of the flags, and what it leaves
+  module _ (cells flags : List ℕ) (rows marked : List (List ℕ)) (b₀ : BlockOf k size rows cells) (b₁ : BlockOf k size marked flags)
       (r₀ : RowsAt k at size ((chip_at b 0).memory ∷ (chip_at b 1).memory ∷ (chip_at b 2).memory ∷ (chip_at b 3).memory ∷ []) rows)
       (r₁ : RowsAt k at size ((chip_at b 0).marks ∷ (chip_at b 1).marks ∷ (chip_at b 2).marks ∷ (chip_at b 3).marks ∷ []) marked) where
     flag_cell : (j : ℕ) → k * at ≤ j → j < k * (at + size) → get_or flags (j - k * at) 0 ≡ get_or (chip_at b (j % k)).marks (j / k) 0
@@ -88,7 +87,7 @@ module _ (k : ℕ) (whole : Buffers) (b : Board) (r : Ready k whole b) (at size 
     abbrev width : ℕ
     width = k * (at + size) - k * at
 
-    flags_clean : row16 (take width flags) ≡ false
+    pub flags_clean : row16 (take width flags) ≡ false
     flags_clean =
         small_clean (take width flags)
         (λ i l.
@@ -100,25 +99,33 @@ module _ (k : ℕ) (whole : Buffers) (b : Board) (r : Ready k whole b) (at size 
         rw (get_or-take width flags i 0 v, d)
         (flag_small (chip_at b (j % k)).marks (j / k) (r.clean (j % k) (omega (arith, e.chip j, at_most_four k r.count)))))
 
-    pub receivable : Receivable (take width (drop (k * at) whole.memory)) (take width (drop (k * at) whole.marks)) cells flags
-    receivable =
-        let p : length (take width (drop (k * at) whole.memory)) ≡ width = part_long whole.memory (k * at) (k * (at + size)) (omega arith) ends in
-        let q : length (take width (drop (k * at) whole.marks)) ≡ width = part_long whole.marks (k * at) (k * (at + size)) (omega arith) (rw r.long ends) in
-        record {
-          few = omega (arith, p, small);
-          cells_long = omega (arith, p, small);
-          flags_long = omega (arith, p, small);
-          same = q ∙ sym p;
-          clean = rw p flags_clean;
-        }
-
-    pub row_collected : (m s : List ℕ)
-        → Received (take width (drop (k * at) whole.memory)) cells flags m s
-        → Collects k b (k * at) (k * (at + size)) whole (buffers_of (put_mid (k * at) width whole.memory m) (put_mid (k * at) width whole.marks s))
-    row_collected m s x =
+    pub row_collected : (new : Buffers)
+        → Renewed (λ j. get_or cells (j - k * at) 0) (λ j. get_or flags (j - k * at) 0) (k * at) (k * (at + size)) whole new
+        → Collects k b (k * at) (k * (at + size)) whole new
+    row_collected new =
         renewed_same (λ j. get_or cells (j - k * at) 0) (λ j. get_or flags (j - k * at) 0) (λ j. get_or (chip_at b (j % k)).memory (j / k) 0)
-        (λ j. get_or (chip_at b (j % k)).marks (j / k) 0) (k * at) (k * (at + size)) whole _ r.long (λ j l h i. (byte_cell j l h, flag_cell j l h))
-        (part_received whole.memory whole.marks cells flags (k * at) (k * (at + size)) (omega arith) ends r.long (omega (arith, small)) (omega (arith, small)) m s x.0 x.1)
+        (λ j. get_or (chip_at b (j % k)).marks (j / k) 0) (k * at) (k * (at + size)) whole new r.long (λ j l h i. (byte_cell j l h, flag_cell j l h))
+
+    -- blocks of 64 cells: all that `receive_row` asks for, and what it leaves in its part
+    module _ (long₀ : length cells ≡ 64) (long₁ : length flags ≡ 64) where
+      pub receivable : Receivable (take width (drop (k * at) whole.memory)) (take width (drop (k * at) whole.marks)) cells flags
+      receivable =
+          let p : length (take width (drop (k * at) whole.memory)) ≡ width = part_long whole.memory (k * at) (k * (at + size)) (omega arith) ends in
+          let q : length (take width (drop (k * at) whole.marks)) ≡ width = part_long whole.marks (k * at) (k * (at + size)) (omega arith) (rw r.long ends) in
+          record {
+            few = omega (arith, p, small);
+            cells_long = omega (arith, p, small);
+            flags_long = omega (arith, p, small);
+            same = q ∙ sym p;
+            clean = rw p flags_clean;
+          }
+
+      pub part_collected : (m s : List ℕ)
+          → Received (take width (drop (k * at) whole.memory)) cells flags m s
+          → Collects k b (k * at) (k * (at + size)) whole (buffers_of (put_mid (k * at) width whole.memory m) (put_mid (k * at) width whole.marks s))
+      part_collected m s x =
+          row_collected _
+          (part_received whole.memory whole.marks cells flags (k * at) (k * (at + size)) (omega arith) ends r.long (omega (arith, small)) (omega (arith, small)) m s x.0 x.1)
 
 -- ---- one row behind the other
 

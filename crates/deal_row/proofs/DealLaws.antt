@@ -8,7 +8,7 @@ use lib.ListN.{length, get_or, take, drop, length-take}
 use lib.Seq.{get_or-take, get_or-drop}
 use Rattle.lists.proofs.PartLaws.{part_long}
 use Rattle.window.specs.Windows.{row16}
-use Rattle.chips.specs.Boards.{Board, chip_at}
+use Rattle.chips.specs.Boards.{Buffers, Board, chip_at}
 use Rattle.chips.specs.Promises.{Renewed}
 use Rattle.chips.proofs.TestLaws.{some_chips}
 use Rattle.chips.proofs.ShareLaws.{Even, even, row_inside, row_end, share_in, used}
@@ -66,14 +66,10 @@ module _ (k : ℕ) (memory marks : List ℕ) (b : Board) (r : Ready k memory mar
       (s.0, rw ((r.shares c u).0 ∙ share_in k c n s.0) room)
 
   module _ (flags : List (List ℕ)) (q : RowsOf k size (row_in marks) flags) where
-    -- what `put_row` asks for, of each chip
-    pub put_asks : size ≤ 16 → (c : ℕ) → c < 4
-        → (size ≤ 16) × (length (chip_at b c).marks ≡ length (chip_at b c).memory)
-        × (0 < length (chip_at b c).memory → (at + size ≤ length (chip_at b c).memory) × (row16 (take size (get_or flags c [])) ≡ false))
-    put_asks few c u = (
-      few,
-      (r.shares c u).1 ∙ sym (r.shares c u).0,
-      (λ h.
+    module _ (c : ℕ) (u : c < 4) where
+      -- what `put_row` asks for, of a chip that is used
+      pub put_asks : 0 < length (chip_at b c).memory → (at + size ≤ length (chip_at b c).memory) × (row16 (take size (get_or flags c [])) ≡ false)
+      put_asks h =
           let s = in_use c u h in (
             s.1,
             small_clean (take size (get_or flags c []))
@@ -81,29 +77,37 @@ module _ (k : ℕ) (memory marks : List ℕ) (b : Board) (r : Ready k memory mar
                 let v : i < size = omega (arith, length-take size (get_or flags c [])) in
                 rw (get_or-take size (get_or flags c []) i 0 v, q c s.0 i v, cut_cell k n at size e room marks r.long c i s.0 v)
                 (flag_small marks (k * (at + i) + c) r.clean)),
-          )),
-    )
+          )
+
+      -- what it leaves
+      pub put_dealt : (cells : List (List ℕ)) → RowsOf k size (row_in memory) cells → (new : Buffers)
+          → Renewed (λ j. get_or (get_or cells c []) (j - at) 0) (λ j. get_or (get_or flags c []) (j - at) 0) at (at + size) (chip_at b c) new
+          → Renewed (λ j. get_or memory (k * j + c) 0) (λ j. get_or marks (k * j + c) 0) at (at + size) (chip_at b c) new
+      put_dealt cells p new =
+          renewed_same (λ j. get_or (get_or cells c []) (j - at) 0) (λ j. get_or (get_or flags c []) (j - at) 0) (λ j. get_or memory (k * j + c) 0) (λ j. get_or marks (k * j + c) 0)
+          at (at + size) (chip_at b c) new ((r.shares c u).1 ∙ sym (r.shares c u).0)
+          (λ j l h i.
+          let s = in_use c u (omega arith) in
+          (row_cell k n at size e room memory refl cells p c j s.0 l h, row_cell k n at size e room marks r.long flags q c j s.0 l h))
+
+    -- all that `put_row` asks for, where a row has at most 16 cells
+    pub put_asks_by_size : size ≤ 16 → (c : ℕ) → c < 4
+        → (size ≤ 16) × (length (chip_at b c).marks ≡ length (chip_at b c).memory)
+        × (0 < length (chip_at b c).memory → (at + size ≤ length (chip_at b c).memory) × (row16 (take size (get_or flags c [])) ≡ false))
+    put_asks_by_size few c u = (few, (r.shares c u).1 ∙ sym (r.shares c u).0, put_asks c u)
 
     module _ (cells : List (List ℕ)) (p : RowsOf k size (row_in memory) cells) (d : Board) where
       -- a chip that has received its row
       abbrev pub Put : ℕ → Type 0
       Put c = Renewed (λ j. get_or (get_or cells c []) (j - at) 0) (λ j. get_or (get_or flags c []) (j - at) 0) at (at + size) (chip_at b c) (chip_at d c)
 
-      put_dealt : (c : ℕ) → c < 4 → Put c
-          → Renewed (λ j. get_or memory (k * j + c) 0) (λ j. get_or marks (k * j + c) 0) at (at + size) (chip_at b c) (chip_at d c)
-      put_dealt c u =
-          renewed_same (λ j. get_or (get_or cells c []) (j - at) 0) (λ j. get_or (get_or flags c []) (j - at) 0) (λ j. get_or memory (k * j + c) 0) (λ j. get_or marks (k * j + c) 0)
-          at (at + size) (chip_at b c) (chip_at d c) ((r.shares c u).1 ∙ sym (r.shares c u).0)
-          (λ j l h i.
-          let s = in_use c u (omega arith) in
-          (row_cell k n at size e room memory refl cells p c j s.0 l h, row_cell k n at size e room marks r.long flags q c j s.0 l h))
-
       -- all four have
       pub row_dealt : Put 0 → Put 1 → Put 2 → Put 3 → Dealt k memory marks at (at + size) b d
       row_dealt h₀ h₁ h₂ h₃ =
           by_four
           (λ c. Renewed (λ j. get_or memory (k * j + c) 0) (λ j. get_or marks (k * j + c) 0) at (at + size) (chip_at b c) (chip_at d c))
-          (put_dealt 0 (omega arith) h₀) (put_dealt 1 (omega arith) h₁) (put_dealt 2 (omega arith) h₂) (put_dealt 3 (omega arith) h₃)
+          (put_dealt 0 (omega arith) cells p (chip_at d 0) h₀) (put_dealt 1 (omega arith) cells p (chip_at d 1) h₁)
+          (put_dealt 2 (omega arith) cells p (chip_at d 2) h₂) (put_dealt 3 (omega arith) cells p (chip_at d 3) h₃)
 
 -- ---- one row behind the other
 

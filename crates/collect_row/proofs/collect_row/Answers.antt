@@ -1,6 +1,6 @@
 -- `collect_row` lays the chips' rows into a block, and receives it.
 use Rattle.chips.specs.Boards.{board_of, chip_at}
-use Rattle.collect_row.proofs.CollectLaws.{row_asks, receivable, row_collected}
+use Rattle.collect_row.proofs.CollectLaws.{row_asks, receivable, part_collected}
 use Rattle.collect_row.proofs.collect_row.Goals as goal
 
 pub rows_at-cells-requires : goal.rows_at-cells-requires
@@ -21,10 +21,10 @@ pub receive_block-requires : goal.receive_block-requires
 receive_block-requires c =
     let a = c.args in
     let e = c.blocks_of.ensures in
-    receivable _ _ _ c.requires.2 a.at a.size c.requires.0 c.requires.1 _ _ _ _ e.0.0 e.1.0 e.0.1 e.1.1 c.rows_at-cells.ensures c.rows_at-flags.ensures
+    receivable _ _ _ c.requires.2 a.at a.size c.requires.0 c.requires.1 _ _ _ _ e.0.1 e.1.1 c.rows_at-cells.ensures c.rows_at-flags.ensures e.0.0 e.1.0
 
 pub returns : goal.returns
 returns c =
     let a = c.args in
     let e = c.blocks_of.ensures in
-    row_collected _ _ _ c.requires.2 a.at a.size c.requires.0 c.requires.1 _ _ _ _ e.0.0 e.1.0 e.0.1 e.1.1 c.rows_at-cells.ensures c.rows_at-flags.ensures _ _ c.receive_block.ensures
+    part_collected _ _ _ c.requires.2 a.at a.size c.requires.0 c.requires.1 _ _ _ _ e.0.1 e.1.1 c.rows_at-cells.ensures c.rows_at-flags.ensures e.0.0 e.1.0 _ _ c.receive_block.ensures

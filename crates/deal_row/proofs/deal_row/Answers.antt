@@ -1,20 +1,20 @@
 -- `deal_row` puts its row into each chip.
 use Rattle.std.proofs.Common.{arith}
 use Rattle.chips.specs.Boards.{board_of}
-use Rattle.deal_row.proofs.DealLaws.{put_asks, row_dealt}
+use Rattle.deal_row.proofs.DealLaws.{put_asks_by_size, row_dealt}
 use Rattle.deal_row.proofs.deal_row.Goals as goal
 
 pub put_row-requires : goal.put_row-requires
-put_row-requires c = put_asks _ _ _ _ c.requires.2 c.args.at c.args.size c.requires.1 c.rows_of.result.1 c.rows_of.ensures.1 c.requires.0 0 (omega arith)
+put_row-requires c = put_asks_by_size _ _ _ _ c.requires.2 c.args.at c.args.size c.requires.1 c.rows_of.result.1 c.rows_of.ensures.1 c.requires.0 0 (omega arith)
 
 pub put_row-requires-2 : goal.put_row-requires-2
-put_row-requires-2 c = put_asks _ _ _ _ c.requires.2 c.args.at c.args.size c.requires.1 c.rows_of.result.1 c.rows_of.ensures.1 c.requires.0 1 (omega arith)
+put_row-requires-2 c = put_asks_by_size _ _ _ _ c.requires.2 c.args.at c.args.size c.requires.1 c.rows_of.result.1 c.rows_of.ensures.1 c.requires.0 1 (omega arith)
 
 pub put_row-requires-3 : goal.put_row-requires-3
-put_row-requires-3 c = put_asks _ _ _ _ c.requires.2 c.args.at c.args.size c.requires.1 c.rows_of.result.1 c.rows_of.ensures.1 c.requires.0 2 (omega arith)
+put_row-requires-3 c = put_asks_by_size _ _ _ _ c.requires.2 c.args.at c.args.size c.requires.1 c.rows_of.result.1 c.rows_of.ensures.1 c.requires.0 2 (omega arith)
 
 pub put_row-requires-4 : goal.put_row-requires-4
-put_row-requires-4 c = put_asks _ _ _ _ c.requires.2 c.args.at c.args.size c.requires.1 c.rows_of.result.1 c.rows_of.ensures.1 c.requires.0 3 (omega arith)
+put_row-requires-4 c = put_asks_by_size _ _ _ _ c.requires.2 c.args.at c.args.size c.requires.1 c.rows_of.result.1 c.rows_of.ensures.1 c.requires.0 3 (omega arith)
 
 pub returns : goal.returns
 returns c =
