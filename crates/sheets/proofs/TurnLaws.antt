@@ -72,15 +72,21 @@ module _ (S : List Symbol) (sheet : List ℕ) (at : ℕ) where
   Within None = Unit {0}
   Within (Some x) = WithinPair x
 
-  within_if : (b : Bool) (x y : Result Store Fault) → (b ≡ true → WithinPair x) → (b ≡ false → WithinPair y) → WithinPair (cond b x y)
+  -- of two answers, the one that a test chooses
+  within_if : (b : Bool) (x y : Option (Result Store Fault)) → (b ≡ true → Within x) → (b ≡ false → Within y) → Within (cond b x y)
   within_if true x y h l = h refl
   within_if false x y h l = l refl
+
+  -- the same of two pairs
+  within_pair_if : (b : Bool) (x y : Result Store Fault) → (b ≡ true → WithinPair x) → (b ≡ false → WithinPair y) → WithinPair (cond b x y)
+  within_pair_if true x y h l = h refl
+  within_pair_if false x y h l = l refl
 
   within_second : (a : ℕ) → WithinPair (second_at sheet (end_at sheet at) a)
   unfolding second_at is_field field_at
   within_second a =
       let mid : ℕ = end_at sheet at in
-      within_if (eqb (get_or sheet mid 0) 2 && leb (end_at sheet mid) (length sheet)) _ _
+      within_pair_if (eqb (get_or sheet mid 0) 2 && leb (end_at sheet mid) (length sheet)) _ _
       (λ e. (omega (arith, end_is sheet at), omega (arith, end_is sheet mid), leb-true _ _ (and_both (eqb (get_or sheet mid 0) 2) (leb (end_at sheet mid) (length sheet)) e).1))
       (λ e. omega arith)
 
@@ -92,12 +98,12 @@ module _ (S : List Symbol) (sheet : List ℕ) (at : ℕ) where
   within_read : WithinPair (read_at S sheet at)
   unfolding read_at
   within_read =
-      within_if (leb (length sheet) (end_at sheet at)) _ _ (λ f. omega arith)
-      (λ f. within_if (eqb (get_or sheet at 0) 1) _ _ (λ g. within_text (worth_of S (take (length_at sheet at) (drop (at + 3) sheet)))) (λ g. omega arith))
+      within_pair_if (leb (length sheet) (end_at sheet at)) _ _ (λ f. omega arith)
+      (λ f. within_pair_if (eqb (get_or sheet at 0) 1) _ _ (λ g. within_text (worth_of S (take (length_at sheet at) (drop (at + 3) sheet)))) (λ g. omega arith))
 
   pub within : Within (pair_at S sheet at)
   unfolding pair_at
-  within = by_test (leb (length sheet) at) (λ e. rw e tt) (λ e. rw e within_read)
+  within = within_if (leb (length sheet) at) None _ (λ e. tt) (λ e. within_read)
 
   -- ---- the plan by the pair
 

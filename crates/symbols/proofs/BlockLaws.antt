@@ -3,12 +3,12 @@ use mathlib.Core.Path.{◌≡◌, refl, sym, ap, ◌∙◌}
 use Prim.Native.Nat.{ℕ, suc, ◌+◌, ◌-◌, ◌≤◌, ◌<◌}
 use native.Mathlib.Numerals.{add-one}
 use native.Mathlib.Omega.{arith}
-use borrow.Author.Tests.{lt-ltb, le-ltb, eq-eqb, ne_eqb}
+use borrow.Author.Tests.{lt-ltb, le-ltb, ltb-false, eq-eqb, ne_eqb}
 use mathlib.Core.Bool.{true, false}
 use mathlib.Core.List.{List, [], ◌∷◌}
-use lib.Dec.{eqb}
+use lib.Dec.{eqb, ltb}
 use lib.ListN.{length, drop, length-take, length-drop}
-use Rattle.std.specs.Prelude.{Some, None, Result}
+use Rattle.std.specs.Prelude.{Option, Some, None, Result}
 use Rattle.lists.proofs.TestLaws.{by_test}
 use Rattle.window.specs.declared.Refusal.{Refusal}
 use Rattle.text.specs.declared.Found.{Found}
@@ -67,6 +67,15 @@ module _ (text : List ℕ) (begin n : ℕ) (l : Line) where
     unfolding line_row row24
     line_none a m = rw ((some_22 l.chars count q).0, a, le-ltb 1024 (n + symbol_count l.chars) (omega (arith, line_count)))
 
+  -- a line without a row has pairs, and they have room
+  pub line_inv : (p : Option ℕ) → p ≡ pairs_of l.chars → line_row text begin n l ≡ 0 → (p ≡ Some (symbol_count l.chars)) × (n + symbol_count l.chars ≤ 1024)
+  unfolding line_row row24 pairs_of
+  line_inv p q z =
+      by_test (row22 l.chars) (λ r. absurd (let w : 22 ≡ 0 = rw r at z in omega arith))
+      (λ r. by_test (row23 text begin l) (λ s. absurd (let w : 23 ≡ 0 = rw (r, s) at z in omega arith))
+      (λ s. by_test (ltb 1024 (n + symbol_count l.chars)) (λ t. absurd (let w : 24 ≡ 0 = rw (r, s, t) at z in omega arith))
+      (λ t. (rw r at q, ltb-false 1024 (n + symbol_count l.chars) t))))
+
 -- a fault has a row
 pub row_some : (fault : Fault) → row_of fault ≡ 0 → ⊥
 row_some Unpaired e = omega arith
@@ -114,15 +123,18 @@ module _ (text : List ℕ) (begin : ℕ) where
 
         -- a line more
         pub block_on : line_row text begin n (line_at text w.from w.to) ≡ 0 → (count : ℕ) → count ≡ symbol_count (part text w.from w.to)
-            → n + count ≤ 1024 → Going w.to (k + 1) (n + count)
-        block_on z count c room =
+            → Going w.to (k + 1) (n + count)
+        block_on z count c =
             record {
               low = omega (arith, g.low, line.low, line.some_chars);
               high = line.high;
               lines_read = omega (arith, g.lines_read, line.low, line.some_chars);
-              few = room;
+              few = omega (arith, c, v.1);
               is = rw (add-one, c) (rw (line.is, e, eq-eqb (line_row text begin n (line_at text w.from w.to)) 0 z) at g.is);
             }
+          where
+            v : (pairs_of (part text w.from w.to) ≡ Some (symbol_count (part text w.from w.to))) × (n + symbol_count (part text w.from w.to) ≤ 1024)
+            v = line_inv text begin n (line_at text w.from w.to) (pairs_of (part text w.from w.to)) refl z
 
 -- ---- the title
 

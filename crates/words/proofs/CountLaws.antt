@@ -50,7 +50,7 @@ count_position is_in chars =
 pub all_counted : (is_in : ℕ → Bool) (chars : List ℕ) → list_all is_in chars ≡ all_of is_in chars
 unfolding all_of counted
 all_counted is_in [] = refl
-all_counted is_in (c ∷ cs) = by_test (is_in c) (λ e. rw (e, compare.suc-suc) (all_counted is_in cs)) (λ e. rw e (none (length cs)))
+all_counted is_in (c ∷ cs) = by_test (is_in c) (λ e. rw (e, compare.suc-suc) (all_counted is_in cs)) (λ e. rw e (no_zero (length cs)))
   where
-    none : (n : ℕ) → false ≡ eqb 0 (suc n)
-    none n = sym (ne_eqb 0 (suc n) (λ q. absurd (omega arith)))
+    no_zero : (n : ℕ) → false ≡ eqb 0 (suc n)
+    no_zero n = sym (ne_eqb 0 (suc n) (λ q. absurd (omega arith)))

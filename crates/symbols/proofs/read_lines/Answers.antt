@@ -24,4 +24,4 @@ returns-in-Err-clause-block c =
 pub loop-line-preserved : goal.loop-line-preserved
 loop-line-preserved c =
     block_on c.args.text.now c.args.begin c.loop-line.invariant c.in-Some.line c.in-Some.ensures.first (search rules)
-    c.in-Ok.ensures.fine c.in-Ok.count c.in-Ok.ensures.count.0 c.in-Ok.ensures.count.1
+    c.in-Ok.ensures.fine c.in-Ok.count c.in-Ok.ensures.count.0

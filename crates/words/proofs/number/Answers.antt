@@ -3,7 +3,7 @@ use Rattle.hex_digits.proofs.DigitTableLaws.{entry_value}
 use Rattle.lists.proofs.PartLaws.{take_least}
 use lib.Seq.{take_all}
 use Rattle.words.specs.Words.{number_in, digits_after}
-use Rattle.words.proofs.NumberLaws.{number_turn, one_more, seven}
+use Rattle.words.proofs.NumberLaws.{digits_more, one_more, seven}
 use Rattle.words.proofs.number.Goals as goal
 
 pub overflow_mul-a : goal.overflow_mul-a
@@ -13,7 +13,7 @@ pub overflow_add-a : goal.overflow_add-a
 overflow_add-a c = record { fits = omega (arith, seven _ _ c.loop-c.invariant.0 (omega (arith, length-take {A = ℕ}))) }
 
 pub loop-c-preserved : goal.loop-c-preserved
-loop-c-preserved c = (one_more _ _ _ c.loop-c.invariant.0 (omega arith), grind (arith, add-one, number_turn, entry_value))
+loop-c-preserved c = (one_more _ _ _ c.loop-c.invariant.0 (omega arith), grind (arith, add-one, digits_more, entry_value))
 
 pub returns : goal.returns
 unfolding number_in
