@@ -6,6 +6,7 @@ use native.Mathlib.Omega.{arith}
 use mathlib.Core.Bool.{true}
 use mathlib.Core.List.{List}
 use lib.ListN.{length, get_or}
+use borrow.Author.Tests.{eq-eqb}
 use Rattle.window.specs.declared.Refusal.{Refusal}
 use Rattle.window.specs.Windows.{Window, window_of}
 use Rattle.window.specs.Images.{Image}
@@ -61,25 +62,29 @@ module _ (k base : ℕ) (memory marks : List ℕ) (b : Board) where
       let e : refusal_of fault ≡ collect_refusal k W b = ap (told (chips_or (refusal 0 0 0))) q ∙ sym (lengths_told k base memory marks b (chips_or (refusal 0 0 0))) in
       stays r (p ∙ e) (λ z. fault_refuses fault (sym (ap (λ (x : Refusal). x.reason) p) ∙ z))
 
-  -- behind them the chips' marks decide
-  module _ (q : Ok tt ≡ checked k base memory marks b) (all : Result (Unit {0}) Fault) (m : (next : Refusal) → chips_or next ≡ told next all) where
-    by_marks : told (refusal 0 0 0) all ≡ collect_refusal k W b
-    unfolding collect_refusal
-    by_marks =
-        sym (m (refusal 0 0 0)) ∙ ap (told (chips_or (refusal 0 0 0))) q
-        ∙ sym (lengths_told k base memory marks b (chips_or (refusal 0 0 0)))
+  -- row 16 of the chips' marks, and behind them zeros
+  abbrev pub bad_rows : Refusal
+  bad_rows = chips_or (refusal 0 0 0)
 
-    -- refused by row 16
-    pub refused_by_marks : (r : Refusal) (fault : Fault) → r ≡ refusal_of fault → all ≡ Err fault → Says r own
-    refused_by_marks r fault p e =
-        stays r (p ∙ ap (told (refusal 0 0 0)) (sym e) ∙ by_marks) (λ z. fault_refuses fault (sym (ap (λ (x : Refusal). x.reason) p) ∙ z))
+  -- behind rows 21 and 1 the chips' marks decide
+  by_marks : (r : Refusal) → Ok tt ≡ checked k base memory marks b → r ≡ bad_rows → r ≡ collect_refusal k W b
+  unfolding collect_refusal
+  by_marks r q p = p ∙ ap (told bad_rows) q ∙ sym (lengths_told k base memory marks b bad_rows)
 
-  module _ (q : Ok tt ≡ checked k base memory marks b) (m : (next : Refusal) → chips_or next ≡ next) where
-    answers : refusal 0 0 0 ≡ collect_refusal k W b
-    answers = by_marks q (Ok tt) m
+  -- refused by row 16
+  pub refused_by_marks : (r : Refusal) → Ok tt ≡ checked k base memory marks b → r ≡ bad_rows → (r.reason ≡ 0 → ⊥) → Says r own
+  refused_by_marks r q p h = stays r (by_marks r q p) h
 
+  -- the same, by what the check of the chips' marks answers
+  pub refused_by_check : Ok tt ≡ checked k base memory marks b → (all : Result (Unit {0}) Fault) → ((next : Refusal) → chips_or next ≡ told next all)
+      → (r : Refusal) (fault : Fault) → r ≡ refusal_of fault → all ≡ Err fault → Says r own
+  refused_by_check q all m r fault p e =
+      refused_by_marks r q (p ∙ ap (told (refusal 0 0 0)) (sym e) ∙ sym (m (refusal 0 0 0)))
+      (λ z. fault_refuses fault (sym (ap (λ (x : Refusal). x.reason) p) ∙ z))
+
+  module _ (r : Refusal) (q : Ok tt ≡ checked k base memory marks b) (p : r ≡ bad_rows) (h : r.reason ≡ 0) where
     passed : passes (collect_refusal k W b) ≡ true
-    passed = rw (← answers) refl
+    passed = rw (← by_marks r q p) (eq-eqb r.reason 0 h)
 
     -- what the functions over rows ask for
     pub ready : Ready k own b
@@ -106,11 +111,8 @@ module _ (k base : ℕ) (memory marks : List ℕ) (b : Board) where
         (λ i l. flag_small (chip_at b (i % k)).marks (i / k) (ready.clean (i % k) (omega (arith, e.chip i, at_most_four k ready.count))))
 
     -- collected
-    pub accepted : (r : Refusal) → r ≡ refusal 0 0 0 → (new : Buffers) → Collects k b 0 (length memory) own new → Says r new
+    pub accepted : (new : Buffers) → Collects k b 0 (length memory) own new → Says r new
     unfolding collected_whole
-    accepted r p new x =
-        let e = p ∙ answers in
-        record {
-          refuses = e;
-          whole = collected_all new x ∙ leaves_image (collect_refusal k W b) r own (collected_image k (length memory) b) e (ap (λ (f : Refusal). f.reason) p);
-        }
+    accepted new x =
+        let e = by_marks r q p in
+        record { refuses = e; whole = collected_all new x ∙ leaves_image (collect_refusal k W b) r own (collected_image k (length memory) b) e h }

@@ -15,7 +15,7 @@ use Rattle.operands.specs.Reading.{number_at, name_at, closed_at, term_by, is_si
 use Rattle.operands.specs.Reading.Read.{tree, bad}
 use Rattle.operands.specs.Values.{verdict, part_of, told}
 use Rattle.operands.specs.Parts.{closed, joined, joined_value}
-use Rattle.operands.proofs.PartLaws.{form_bad, Took, form_good, number_any, closed_is, joined_is}
+use Rattle.operands.proofs.PartLaws.{form_bad, Took, form_good, number_any, closed_is, joined_value_is}
 use Rattle.expressions.proofs.ReadLaws.{Past, past_term, sum_is, inner_sum, inner_none, no_letter, no_sign, more_bad, more_end, more_on}
 
 module _ (S : List Symbol) (s : List ℕ) (left at : ℕ) where
@@ -116,7 +116,7 @@ module _ (S : List Symbol) (s : List ℕ) (left at : ℕ) where
               so_far = operation c g.so_far k.of;
               fuel = g.fuel - 1;
               low = omega (arith, g.low);
-              says = ap₂ (λ v w. joined_value v c w) g.says k.says ∙ joined_is S c g.so_far k.of;
+              says = ap₂ (λ v w. joined_value v c w) g.says k.says ∙ joined_value_is S c g.so_far k.of;
               enough = omega (arith, g.enough);
               is = rw k.is at on;
             },

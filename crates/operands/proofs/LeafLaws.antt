@@ -94,7 +94,7 @@ module _ (S : List Symbol) (s : List ℕ) (at n : ℕ) (d : n ≡ counted is_aln
     found : f ≡ sought (meaning S (take n (drop at s)))
     found = rw add-sub_cancel_left at q
 
-    -- the verdict is told, with the place behind the name
+    -- the verdict is told, with the place after the name
     verdict_told : (w : Result ℕ ValueError) → w ≡ named (meaning S (take n (drop at s))) → Some (part_of w (at + n)) ≡ name_told
     unfolding name_at verdict
     verdict_told w e = rw (word, le-ltb 16 n h) (ap (λ (x : Result ℕ ValueError). Some (part_of x (at + n))) e)

@@ -81,10 +81,14 @@ module _ (S : List Symbol) where
   closed_is s (tree t at) = by_test (eqb (get_or s at 0) 41) (λ e. rw e) (λ e. rw e)
   closed_is s bad = refl
 
-  -- `join` does what the rows say
-  pub joined_is : (sign : ℕ) (a b : Tree) → joined_value (verdict S a) sign (verdict S b) ≡ verdict S (operation sign a b)
+  -- two values under a sign: `join` does what the rows say
+  pub joined_value_is : (sign : ℕ) (a b : Tree) → joined_value (verdict S a) sign (verdict S b) ≡ verdict S (operation sign a b)
   unfolding operation verdict
-  joined_is sign a b =
+  joined_value_is sign a b =
       by_test (eqb sign 43)
       (λ e. rw e (names sign (known S a) (known S b) (value S a) (value S b) (added (value S a) (value S b)) (sums sign (value S a) (value S b) e)))
       (λ e. rw e (names sign (known S a) (known S b) (value S a) (value S b) (taken (value S a) (value S b)) (differences sign (value S a) (value S b) e)))
+
+  -- two parts: with the place of the second
+  pub joined_is : (a b : Tree) (i at sign : ℕ) → joined (Some (part_of (verdict S a) i)) sign (Some (part_of (verdict S b) at)) ≡ part_of (verdict S (operation sign a b)) at
+  joined_is a b i at sign = ap (λ v. part_of v at) (joined_value_is sign a b)
